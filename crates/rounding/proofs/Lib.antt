@@ -1,0 +1,10 @@
+pub mod Patterns
+pub mod Choosing
+pub mod Rounding
+pub mod Doubles
+pub mod Agreeing
+pub mod Floats
+pub mod Conversions
+pub mod Pinning
+pub mod Model
+pub mod Examples

@@ -1,0 +1,7 @@
+pub mod Formats
+pub mod Nearest
+pub mod Agrees
+pub mod Shifts
+pub mod Literals
+pub mod Conversion
+pub mod Examples

@@ -3,7 +3,7 @@ use mathlib.Core.Path.{_≡_, refl, sym, ap, _∙_, subst}
 use mathlib.Core.Logic.{_⊎_, inl, inr}
 use mathlib.Core.Bool.{Bool, true, false, cond, not, _&&_, true≢false}
 use Prim.Native.Nat.{ℕ, zero, suc, _+_, _-_, _*_, _/_, _%_, _^_, _≤_, _<_, min}
-use native.Mathlib.Nat.{mul-assoc, mul-comm, mul-one, one-mul, mul-right-comm, div-one, lt-of-le-of-lt, mul-lt-mul-of-pos-right, mul-pos, zero-mul, add-mul, div-le-self, eq-of-mul-eq-mul-right}
+use native.Mathlib.Nat.{mul-assoc, mul-comm, mul-one, one-mul, mul-right-comm, div-one, lt-of-le-of-lt, mul-lt-mul-of-pos-right, mul-pos, zero-mul, add-mul, div-le-self, mul-div-cancel, mul-le-mul-right}
 use native.Mathlib.Omega.{arith}
 use lib.Dec.{T, ltb, leb, eqb, ltb→lt, lit<}
 use lib.IntN.{ℤ, pos, negsuc, negℤ}
@@ -21,16 +21,17 @@ use borrow.Author.Tests.{ltb-true, ltb-false}
 use Rattle.std.proofs.shelf.Ways.{tells}
 use Rattle.std.specs.Floats as Floats
 use Rattle.rounding.specs.Formats.{double, infinity, magnitude}
+use Rattle.rounding.specs.Doubles.{units}
 use Rattle.rounding.proofs.Patterns.{either-way}
 use Rattle.rounding.proofs.Agreeing.{agrees}
 
 -- ---- its units
 
-abbrev pub negative : ℕ → Bool
-negative bits = leb (2 ^ 63) bits
+abbrev pub signOf : ℕ → Bool
+signOf bits = leb (2 ^ 63) bits
 
-abbrev pub units : ℕ → ℕ
-units bits = magnitude double (bits % 2 ^ 63)
+abbrev pub unitsOf : ℕ → ℕ
+unitsOf bits = magnitude double (bits % 2 ^ 63)
 
 -- a pattern from the infinity's on is no finite value's
 beyond : (s : Bool) (x t : ℕ) → x ≡ 2047 → Floats.finite (ofFields binary64 s x t) ≡ false
@@ -46,19 +47,37 @@ unfolding ofBits
 finite-below bits h =
     elim (either-way (bits % 2 ^ 63) (infinity double)) [
       | inl l ↦ l
-      | inr l ↦ absurd (true≢false (sym h ∙ beyond (negative bits) (bits % 2 ^ 63 / 2 ^ 52) (bits % 2 ^ 52) (omega arith)))
+      | inr l ↦ absurd (true≢false (sym h ∙ beyond (signOf bits) (bits % 2 ^ 63 / 2 ^ 52) (bits % 2 ^ 52) (omega arith)))
     ]
+
+-- a value has one sign and one number of units
+by-sign : (x : Float) (s : Bool) (n : ℕ) → HasValue x s n (2 ^ 1074) → Floats.negative x ≡ s
+unfolding Floats.negative
+by-sign nan s n v = absurd v
+by-sign (inf t) s n v = absurd v
+by-sign (fin t m e) s n v = v .0
+
+by-units : (x : Float) (s : Bool) (n : ℕ) → HasValue x s n (2 ^ 1074) → units x ≡ n
+unfolding units
+by-units nan s n v = absurd v
+by-units (inf t) s n v = absurd v
+by-units (fin t m e) s n v = ap (λ (k : ℕ). k / down e) (v .1) ∙ mul-div-cancel n (down-pos e)
 
 module _ (x : Float) (f : T (fits binary64 x)) (h : Floats.finite x ≡ true) where
   pub bits-below : toBits binary64 x % 2 ^ 63 < infinity double
   bits-below = finite-below (toBits binary64 x) (ap Floats.finite (ofBits-toBits binary64 x f) ∙ h)
 
-  pub counts : HasValue x (negative (toBits binary64 x)) (units (toBits binary64 x)) (2 ^ 1074)
-  counts = subst (λ (y : Float). HasValue y (negative (toBits binary64 x)) (units (toBits binary64 x)) (2 ^ 1074)) (ofBits-toBits binary64 x f) (agrees binary64 (toBits binary64 x) bits-below)
+  counts : HasValue x (signOf (toBits binary64 x)) (unitsOf (toBits binary64 x)) (2 ^ 1074)
+  counts = subst (λ (y : Float). HasValue y (signOf (toBits binary64 x)) (unitsOf (toBits binary64 x)) (2 ^ 1074)) (ofBits-toBits binary64 x f) (agrees binary64 (toBits binary64 x) bits-below)
 
--- a value has one number of units
-pub one-count : (m : ℕ) (e : ℤ) (s t : Bool) (a b : ℕ) → HasValue (fin s m e) t a (2 ^ 1074) → HasValue (fin s m e) t b (2 ^ 1074) → a ≡ b
-one-count m e s t a b h k = eq-of-mul-eq-mul-right (down e) (down-pos e) a b (sym (h .1) ∙ k .1)
+  pub sign-is : Floats.negative x ≡ signOf (toBits binary64 x)
+  sign-is = by-sign x (signOf (toBits binary64 x)) (unitsOf (toBits binary64 x)) counts
+
+  pub units-is : units x ≡ unitsOf (toBits binary64 x)
+  units-is = by-units x (signOf (toBits binary64 x)) (unitsOf (toBits binary64 x)) counts
+
+  pub exact : HasValue x (Floats.negative x) (units x) (2 ^ 1074)
+  exact = subst (λ (s : Bool). HasValue x s (units x) (2 ^ 1074)) (sym sign-is) (subst (λ (n : ℕ). HasValue x (signOf (toBits binary64 x)) n (2 ^ 1074)) (sym units-is) counts)
 
 -- ---- its whole part
 
@@ -110,7 +129,7 @@ ltb-scaled : (a b c : ℕ) → 0 < c → ltb (a * c) (b * c) ≡ ltb a b
 ltb-scaled a b c p =
     elim (either-way a b) [
       | inl h ↦ (let k : a * c < b * c = mul-lt-mul-of-pos-right h p in grind (arith, tells))
-      | inr h ↦ (let k : b * c ≤ a * c = native.Mathlib.Nat.mul-le-mul-right c h in grind (arith, tells))
+      | inr h ↦ (let k : b * c ≤ a * c = mul-le-mul-right c h in grind (arith, tells))
     ]
 
 some-scaled : (a c : ℕ) → 0 < c → ltb 0 (a * c) ≡ ltb 0 a

@@ -11,7 +11,6 @@ use Rattle.rounding.specs.Formats.{double, weight, infinity, step, significand
 use Rattle.rounding.specs.Nearest.{Nearest}
 use Rattle.rounding.specs.Shifts.{Narrow, Rounded, Places}
 use Rattle.rounding.proofs.Patterns.{either-way}
-use Rattle.rounding.proofs.Choosing.{nearest-is-one}
 use Rattle.rounding.proofs.Doubles.{nearest-of}
 
 abbrev closest : ℕ → ℕ → ℕ
@@ -46,6 +45,3 @@ made f bits =
 pub made-nearest : (f : Format) → Narrow f → (bits : ℕ) → Nearest f (magnitude double bits) (made f bits)
 unfolding made
 made-nearest f n bits = let e = doublings double bits in nearest-of f n bits (dropped f e) (fields f e) _ (places f e n) (closest-rounds (significand double bits) (2 ^ dropped f e))
-
-pub nearest-made : (f : Format) → Narrow f → (bits q : ℕ) → Nearest f (magnitude double bits) q → q ≡ made f bits
-nearest-made f n bits q h = nearest-is-one f (n .0) (magnitude double bits) q (made f bits) h (made-nearest f n bits)

@@ -1,14 +1,13 @@
 -- What a pipeline value, a double, becomes for a scalar type. A finite double is a whole number of units, each 2^-1074.
-use Prim.Native.Nat.{ℕ, _+_, _-_, _/_, _^_}
+use Prim.Native.Nat.{ℕ, _+_, _-_, _^_}
 use mathlib.Core.Path.{_≡_}
-use mathlib.Core.Bool as Truth
-use mathlib.Core.Bool.{true, false, cond, not, _&&_}
+use mathlib.Core.Bool.{cond, _&&_}
 use lib.Dec.{ltb, eqb}
-use lib.IntN.{ℤ, pos, negsuc, negℤ, natAbs}
+use lib.IntN.{ℤ, pos, negsuc, natAbs}
 use lib.Signed.{leZ}
 use lib.Ieee as Ieee
-use lib.Ieee.{nan, inf, fin, binary64}
-use lib.Ieee.Exact.{HasValue}
+use lib.Ieee.{binary64}
+use Rattle.std.specs.Floats.{finite, negative}
 use Rattle.std.specs.declared.result.Result.{Result}
 use Rattle.std.specs.declared.result.Result.the-variants.{Ok, Err}
 use Rattle.rounding.specs.declared.formats.Format.{Format}
@@ -21,6 +20,7 @@ use Rattle.rounding.specs.declared.conversion.ConversionError.{ConversionError
 use Rattle.rounding.specs.declared.conversion.ConversionError.the-variants.{SrcNeedsToBeFinite, DstRangeTooSmall, UnsupportedScalar}
 use Rattle.rounding.specs.Formats.{half, single, infinity, signBit}
 use Rattle.rounding.specs.Nearest.{Nearest}
+use Rattle.rounding.specs.Doubles.{units, whole, truth}
 
 abbrev pub Answer : Type 0 → Type 0
 Answer X = Result X ConversionError
@@ -35,29 +35,18 @@ abbrev pub Refused : {X : Type 0} → Answer X → ℕ → Type 0
 Refused (Ok v) code = ⊥
 Refused (Err e) code = codeOf e ≡ code
 
--- every value but the zeros and the NaNs, the infinities among them
-abbrev pub truth : Ieee.Float → Truth.Bool
-truth nan = false
-truth (inf s) = true
-truth (fin s m e) = not (eqb m 0)
-
--- Of a finite value, P of its sign and its units. A NaN or an infinity is refused with 9.
-abbrev pub Finite : {X : Type 0} → Ieee.Float → Answer X → (Truth.Bool → ℕ → Type 0) → Type 0
-Finite nan r P = Refused r 9
-Finite (inf s) r P = Refused r 9
-Finite (fin s m e) r P = (n : ℕ) × HasValue (fin s m e) s n (2 ^ 1074) × P s n
-
--- n units with the sign s, the fraction dropped toward zero
-abbrev pub whole : Truth.Bool → ℕ → ℤ
-whole s n = cond s (negℤ (pos (n / 2 ^ 1074))) (pos (n / 2 ^ 1074))
+-- P of a finite value. A NaN or an infinity is refused with 9.
+abbrev pub Finite : {X : Type 0} → Ieee.Float → Answer X → Type 0 → Type 0
+Finite x r P = cond (finite x) P (Refused r 9)
 
 -- r is made of the value without its fraction, if that lies from low to high, and else refused with 10
 abbrev pub Whole : {X : Type 0} → Ieee.Float → Answer X → ℤ → ℤ → (ℤ → X) → Type 0
-Whole x r low high make = Finite x r (λ s n. cond (leZ low (whole s n) && leZ (whole s n) high) (r ≡ Ok (make (whole s n))) (Refused r 10))
+Whole x r low high make = Finite x r (cond (leZ low (whole x) && leZ (whole x) high) (r ≡ Ok (make (whole x))) (Refused r 10))
 
 -- r is made of the pattern of the nearest value of f, with the value's sign, and refused with 10 if that value is the infinity
 abbrev pub Rounds : {X : Type 0} → Ieee.Float → Answer X → Format → (ℕ → X) → Type 0
-Rounds x r f make = Finite x r (λ s n. (q : ℕ) × Nearest f n q × cond (ltb q (infinity f)) (r ≡ Ok (make (cond s (signBit f) 0 + q))) (Refused r 10))
+Rounds x r f make =
+    Finite x r ((q : ℕ) × Nearest f (units x) q × cond (ltb q (infinity f)) (r ≡ Ok (make (cond (negative x) (signBit f) 0 + q))) (Refused r 10))
 
 -- by the scalar's kind and its width in bytes: a value for any other scalar is refused with 11, whatever the value
 abbrev pub OfKind : ScalarKind → ℕ → Ieee.Float → Answer Literal → Type 0
@@ -71,7 +60,7 @@ OfKind Uint w x r =
 OfKind Float w x r =
     cond (eqb w 2) (Rounds x r half Literals.F16)
     (cond (eqb w 4) (Rounds x r single Literals.F32)
-    (cond (eqb w 8) (Finite x r (λ s n. r ≡ Ok (Literals.F64 (Ieee.toBits binary64 x)))) (Refused r 11)))
+    (cond (eqb w 8) (Finite x r (r ≡ Ok (Literals.F64 (Ieee.toBits binary64 x)))) (Refused r 11)))
 
 -- r is what the value x becomes for the scalar
 abbrev pub Becomes : Scalar → Ieee.Float → Answer Literal → Type 0

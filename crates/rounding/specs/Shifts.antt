@@ -11,6 +11,12 @@ use Rattle.rounding.specs.Formats.{step}
 abbrev pub Narrow : Format → Type 0
 Narrow f = (2 ≤ f .digits) × (f .digits ≤ 24) × (1 ≤ f .emax) × (f .emax ≤ 127)
 
+-- m / u, cut, with the rest and the half of u
+pub record Shifted (m u kept lost middle : ℕ) : Type 0 where
+  pub cut : kept ≡ m / u
+  pub rest : lost ≡ m % u
+  pub halfway : middle * 2 ≡ u
+
 -- m / u, rounded to a whole number: r is the nearest one, and at a tie the even one
 pub record Rounded (m u r : ℕ) : Type 0 where
   pub below : m % u * 2 < u → r ≡ m / u

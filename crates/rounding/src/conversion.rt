@@ -8,7 +8,8 @@ ghost use lib.Signed.{_≤ℤ_};
 ghost use Rattle.std.specs.Vec.{made};
 ghost use Rattle.rounding.specs.Shifts.{Narrow, Held};
 ghost use Rattle.rounding.specs.Formats.{signBit};
-ghost use Rattle.rounding.specs.Conversion.{codeOf, Whole, Rounds, Pinned};
+ghost use Rattle.rounding.specs.Doubles.{truth};
+ghost use Rattle.rounding.specs.Conversion.{codeOf, Whole, Rounds, OfKind, Pinned};
 use crate::formats::Format;
 use crate::formats::HALF;
 use crate::formats::SINGLE;
@@ -86,12 +87,19 @@ fn rounded(value: f64, format: Format) -> Result<u64, ConversionError>
     }
 }
 
-// What the value becomes for the scalar.
-pub fn map_value_to_literal(value: f64, scalar: Scalar) -> Result<Literal, ConversionError>
-    ensures { λ r. ⌜ Pinned scalar value r ⌝ }
+// Every value but the zeros and the NaNs.
+fn is_true(value: f64) -> bool
+    ensures { λ r. ⌜ r ≡ truth value ⌝ }
 {
-    match (scalar.kind, scalar.width) {
-        (ScalarKind::Bool, 1) => Ok(Literal::Bool(value != 0.0 && !value.is_nan())),
+    value != 0.0 && !value.is_nan()
+}
+
+// The literal of the scalar type that has this kind and this width in bytes.
+fn literal_of(value: f64, kind: ScalarKind, width: u8) -> Result<Literal, ConversionError>
+    ensures { λ r. ⌜ OfKind kind width value r ⌝ }
+{
+    match (kind, width) {
+        (ScalarKind::Bool, 1) => Ok(Literal::Bool(is_true(value))),
         (ScalarKind::Sint, 2) => Ok(Literal::I16(whole_within(value, -32768, 32767)? as i16)),
         (ScalarKind::Uint, 2) => Ok(Literal::U16(whole_within(value, 0, 65535)? as u16)),
         (ScalarKind::Sint, 4) => Ok(Literal::I32(
@@ -104,4 +112,11 @@ pub fn map_value_to_literal(value: f64, scalar: Scalar) -> Result<Literal, Conve
         (ScalarKind::Float, 8) => Err(ConversionError::SrcNeedsToBeFinite),
         _ => Err(ConversionError::UnsupportedScalar),
     }
+}
+
+// What the value becomes for the scalar.
+pub fn map_value_to_literal(value: f64, scalar: Scalar) -> Result<Literal, ConversionError>
+    ensures { λ r. ⌜ Pinned scalar value r ⌝ }
+{
+    literal_of(value, scalar.kind, scalar.width)
 }

@@ -5,7 +5,7 @@ ghost use mathlib.Core.Path.{_≡_};
 ghost use Prim.Native.Nat.{_+_, _*_, _^_, _<_, _≤_};
 ghost use Rattle.rounding.specs.Formats.{double, weight, infinity, signBit, significand, doublings, magnitude};
 ghost use Rattle.rounding.specs.Nearest.{Nearest};
-ghost use Rattle.rounding.specs.Shifts.{Narrow, Rounded, Places};
+ghost use Rattle.rounding.specs.Shifts.{Narrow, Shifted, Rounded, Places};
 
 // A binary format of IEEE 754: how many binary digits a significand has, the leading one counted,
 // and the exponent of the largest values.
@@ -40,14 +40,20 @@ fn parts(bits: u64) -> (u64, u64)
     }
 }
 
+// `m` / 2^`drop`, cut and with what was lost, and the middle between two whole numbers.
+fn shifted(m: u64, drop: u64) -> (u64, u64, u64)
+    requires { ⌜ (0 < drop) × (drop < 64) ⌝ }
+    ensures { λ r. ⌜ Shifted m (2 ^ drop) (r .0) (r .1) (r .2) ⌝ }
+{
+    (m >> drop, m & ((1u64 << drop) - 1), 1u64 << (drop - 1))
+}
+
 // `m` / 2^`drop`, to the nearest whole number and at a tie to the even one.
 fn rounded_shift(m: u64, drop: u64) -> u64
     requires { ⌜ (m < 2 ^ 53) × (0 < drop) × (drop < 64) ⌝ }
     ensures { λ r. ⌜ Rounded m (2 ^ drop) r ⌝ }
 {
-    let kept = m >> drop;
-    let lost = m & ((1u64 << drop) - 1);
-    let middle = 1u64 << (drop - 1);
+    let (kept, lost, middle) = shifted(m, drop);
     if lost < middle {
         kept
     } else if lost == middle {

@@ -4,6 +4,7 @@
 // relies on nothing but `std`. Whoever settles overrides sees this promise alone.
 ghost use Rattle.rounding.specs.Formats.{Stand-ins};
 ghost use Rattle.rounding.specs.Nearest.{Nearest-is-one};
+ghost use Rattle.rounding.specs.Doubles.{Units-exact};
 ghost use Rattle.rounding.specs.Agrees.{Agrees};
 ghost use Rattle.rounding.specs.Examples.{Examples};
 
@@ -30,11 +31,13 @@ pub use scalars::ScalarKindPartialEq;
 pub use scalars::ScalarPartialEq;
 
 // What the contracts' words mean: one value at most is nearest, the infinities stand for 2^16 and
-// 2^128, and patterns are read as the logic's account of IEEE 754 reads them.
+// 2^128, patterns are read as the logic's account of IEEE 754 reads them, and a finite double is
+// exactly so many units.
 pub fn formats_stand()
     ensures one { λ _. ⌜ Nearest-is-one ⌝ }
     ensures stand_ins { λ _. ⌜ Stand-ins ⌝ }
     ensures agrees { λ _. ⌜ Agrees ⌝ }
+    ensures exact { λ _. ⌜ Units-exact ⌝ }
 {}
 
 // The worked examples hold of the definitions that `map_value_to_literal` is proved against.

@@ -2,7 +2,7 @@
 use mathlib.Core.Path.{_≡_, refl, sym, ap, subst, _∙_}
 use mathlib.Core.Logic.{_⊎_, ⊎-elim}
 use mathlib.Core.List.{List, [], _∷_, _++_, map}
-use Prim.Native.Nat.{ℕ, suc, _+_, _*_, _/_, _%_, _^_, _<_, _≤_}
+use Prim.Native.Nat.{ℕ, zero, suc, _+_, _*_, _/_, _%_, _^_, _<_, _≤_}
 use native.Mathlib.Omega.{arith}
 use lib.ListN.{length, take, getD}
 use lib.Ieee.{toBits, binary64}
@@ -19,11 +19,26 @@ use Rattle.std.proofs.shelf.Tests.{cases-lt}
 use Rattle.settings.specs.First.{Least}
 use Rattle.settings.specs.Layout.{Given, Valid, Encodes, Repeats, Distinct, bytesOf, encode}
 use Rattle.settings.specs.Reading.{given, Read}
-use Rattle.settings.specs.Written.{keysOf, bitsOf, givenBy, TooLong, ReadsBack}
+use Rattle.settings.specs.Written.{keysOf, bitsOf, givenBy, TooLong, Restored, ValuesBack, ReadsBack}
 use Rattle.settings.specs.declared.writing.Setting.{Setting}
 use Rattle.settings.proofs.Places.{nth-map}
 
 -- ---- one setting more
+
+-- the bytes of a number as they are taken off it
+abbrev pub eight : ℕ → List ℕ
+eight n =
+    (n % 256) ∷ (n / 256 % 256) ∷ (n / 65536 % 256) ∷ (n / 16777216 % 256) ∷ (n / 4294967296 % 256) ∷ (n / 1099511627776 % 256) ∷ (n / 281474976710656 % 256) ∷ (n / 72057594037927936 % 256) ∷ []
+
+eight-bytes : (n : ℕ) → bytesOf 8 n ≡ eight n
+eight-bytes n =
+    let a : n / 256 / 256 ≡ n / 65536 = omega arith in
+    let b : n / 256 / 256 / 256 ≡ n / 16777216 = omega arith in
+    let c : n / 256 / 256 / 256 / 256 ≡ n / 4294967296 = omega arith in
+    let d : n / 256 / 256 / 256 / 256 / 256 ≡ n / 1099511627776 = omega arith in
+    let e : n / 256 / 256 / 256 / 256 / 256 / 256 ≡ n / 281474976710656 = omega arith in
+    let f : n / 256 / 256 / 256 / 256 / 256 / 256 / 256 ≡ n / 72057594037927936 = omega arith in
+    cc
 
 module _ (ss : List Setting) (i : ℕ) (d : Setting) (l : i < length ss) (old now′ next : List ℕ) where
   key-more : keysOf (take (i + 1) ss) ≡ keysOf (take i ss) ++ getD ss i d .key .now ∷ []
@@ -44,24 +59,13 @@ module _ (ss : List Setting) (i : ℕ) (d : Setting) (l : i < length ss) (b : �
   value-more : bitsOf (take (i + 1) ss) ≡ bitsOf (take i ss) ++ b ∷ []
   value-more = map-more (λ s. toBits binary64 (s .value)) ss i d l ∙ ap (λ x. bitsOf (take i ss) ++ x ∷ []) (sym is)
 
-  pub values-more : (old now′ next : List ℕ) → now′ ≡ old ++ joined (bytesOf 8) (bitsOf (take i ss)) → next ≡ now′ ++ bytesOf 8 b →
+  pub values-more : (old now′ next put : List ℕ) → now′ ≡ old ++ joined (bytesOf 8) (bitsOf (take i ss)) → next ≡ now′ ++ put → put ≡ eight b →
       next ≡ old ++ joined (bytesOf 8) (bitsOf (take (i + 1) ss))
-  values-more old now′ next e f =
-      f ∙ ap (λ x. x ++ bytesOf 8 b) e ∙ joined-more (bytesOf 8) old (bitsOf (take i ss)) b ∙ ap (λ bs. old ++ joined (bytesOf 8) bs) (sym value-more)
+  values-more old now′ next put e f p =
+      f ∙ ap (λ x. now′ ++ x) (p ∙ sym (eight-bytes b)) ∙ ap (λ x. x ++ bytesOf 8 b) e ∙ joined-more (bytesOf 8) old (bitsOf (take i ss)) b ∙ ap (λ bs. old ++ joined (bytesOf 8) bs) (sym value-more)
 
   pub doubles-more : All (λ x. x < 2 ^ 64) (bitsOf (take i ss)) → b < 2 ^ 64 → All (λ x. x < 2 ^ 64) (bitsOf (take (i + 1) ss))
   doubles-more h k = subst (All (λ x. x < 2 ^ 64)) (sym value-more) (all-push (λ x. x < 2 ^ 64) (bitsOf (take i ss)) b h k)
-
-pub eight-bytes : (n : ℕ) → bytesOf 8 n
-    ≡ (n % 256) ∷ (n / 256 % 256) ∷ (n / 65536 % 256) ∷ (n / 16777216 % 256) ∷ (n / 4294967296 % 256) ∷ (n / 1099511627776 % 256) ∷ (n / 281474976710656 % 256) ∷ (n / 72057594037927936 % 256) ∷ []
-eight-bytes n =
-    let a : n / 256 / 256 ≡ n / 65536 = omega arith in
-    let b : n / 256 / 256 / 256 ≡ n / 16777216 = omega arith in
-    let c : n / 256 / 256 / 256 / 256 ≡ n / 4294967296 = omega arith in
-    let d : n / 256 / 256 / 256 / 256 / 256 ≡ n / 1099511627776 = omega arith in
-    let e : n / 256 / 256 / 256 / 256 / 256 / 256 ≡ n / 281474976710656 = omega arith in
-    let f : n / 256 / 256 / 256 / 256 / 256 / 256 / 256 ≡ n / 72057594037927936 = omega arith in
-    cc
 
 -- ---- keys that are short enough
 
@@ -99,6 +103,11 @@ valid-settings ss few short doubles =
       short = short-all (keysOf ss) short;
       doubles = doubles;
     }
+
+pub values-back : (ss : List Setting) → All Restored ss → ValuesBack ss
+values-back [] h i = refl
+values-back (s ∷ ss) h zero = ap Some (h .0)
+values-back (s ∷ ss) h (suc i) = values-back ss (h .1) i
 
 pub reads-back : (bs : List ℕ) (g : Given) → Encodes bs g → Distinct (g .keys) → ReadsBack bs g
 reads-back bs g en d (Ok s) h = (s, refl, en .only (given s) (h .0 .valid) (h .0 .is))

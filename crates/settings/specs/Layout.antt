@@ -41,6 +41,7 @@ pub record Encodes (bs : List ℕ) (g : Given) : Type 0 where
   pub is : encode g ≡ bs
   pub only : (h : Given) → Valid h → encode h ≡ bs → h ≡ g
 
+-- k is one of the keys
 abbrev pub Among : List ℕ → List (List ℕ) → Type 0
 Among k ks = (j : ℕ) × (nth ks j ≡ Some k)
 
@@ -48,6 +49,7 @@ Among k ks = (j : ℕ) × (nth ks j ≡ Some k)
 abbrev pub Repeats : List (List ℕ) → ℕ → Type 0
 Repeats ks i = Holds (λ k. Among k (take i ks)) ks i
 
+-- no key is equal to an earlier one
 abbrev pub Distinct : List (List ℕ) → Type 0
 Distinct ks = Least (Repeats ks) None
 

@@ -24,6 +24,7 @@ use Rattle.settings.specs.declared.file.Settings.{Settings}
 abbrev pub given : Settings → Given
 given s = record { keys = pieces (s .lengths .now) (s .keys .now); values = eights (s .values .now) }
 
+-- the bytes are no settings file
 abbrev pub Unreadable : List ℕ → Type 0
 Unreadable bs = (g : Given) → Valid g → encode g ≡ bs → ⊥
 

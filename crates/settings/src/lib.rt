@@ -1,4 +1,4 @@
-// Settings files: the doubles that the overrides of a shader module are given, each under a key.
+// Settings files: the doubles that overrides are given, each under a key.
 //
 // A file is a count of at most `MOST_SETTINGS`, as two bytes, the lowest first; so many lengths of keys, a byte each;
 // the keys, one after the other; and so many doubles, eight bytes each, the lowest first. Nothing follows.

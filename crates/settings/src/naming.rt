@@ -1,4 +1,3 @@
-ghost use mathlib.Core.Path.{_≡_};
 ghost use Rattle.std.specs.Orderings.{Decides};
 ghost use Rattle.settings.specs.Keys.{Keyed, Plain, Valued, Takes, Taken};
 

@@ -2,6 +2,7 @@ ghost use mathlib.Core.Path.{_≡_};
 ghost use mathlib.Core.List.{_++_, map};
 ghost use Prim.Native.Nat.{ℕ, _<_, _≤_, _^_};
 ghost use lib.ListN.{length};
+ghost use lib.Ieee.{ofBits, toBits, binary64};
 ghost use Rattle.std.specs.Of.Vec.{vec-items};
 ghost use Rattle.std.specs.Orderings.{Decides};
 ghost use Rattle.std.specs.Vec.{made, refused};
@@ -9,7 +10,7 @@ ghost use Rattle.std.specs.declared.option.Option.the-variants.{None, Some};
 ghost use Rattle.std.specs.shelf.Lists.{joined, All};
 ghost use Rattle.settings.specs.First.{Least};
 ghost use Rattle.settings.specs.Layout.{Among, Repeats, Distinct, Encodes, bytesOf, encode};
-ghost use Rattle.settings.specs.Written.{keysOf, bitsOf, givenBy, TooLong, Refused, writeWords, ReadsBack};
+ghost use Rattle.settings.specs.Written.{keysOf, bitsOf, givenBy, TooLong, Refused, Restored, ValuesBack, ReadsBack, writeWords};
 use crate::LONGEST_KEY;
 use crate::MOST_SETTINGS;
 use std::alloc::AllocError;
@@ -53,6 +54,7 @@ pub impl fmt::Display for WriteError as WriteErrorDisplay {
 pub fn write(heap: Global, settings: &[Setting<'_>]) -> Result<Vec<u8>, WriteError>
     ensures encodes { λ r. ⌜ made r (λ v. Encodes (vec-items v) (givenBy (now (settings .entry)))) ⌝ }
     ensures distinct { λ r. ⌜ made r (λ v. Distinct (keysOf (now (settings .entry)))) ⌝ }
+    ensures values_back { λ r. ⌜ made r (λ v. ValuesBack (now (settings .entry))) ⌝ }
     ensures reads_back { λ r. ⌜ made r (λ v. ReadsBack (vec-items v) (givenBy (now (settings .entry)))) ⌝ }
     ensures refuses { λ r. ⌜ refused r (Refused (now (settings .entry))) ⌝ }
 {
@@ -111,7 +113,9 @@ fn is_key(settings: &[Setting<'_>], key: &[u8]) -> bool
 fn encoded(heap: Global, settings: &[Setting<'_>]) -> Result<Vec<u8>, AllocError>
     requires few { ⌜ length (now settings) ≤ 4096 ⌝ }
     requires short { ⌜ Least (TooLong (keysOf (now settings))) None ⌝ }
-    ensures { λ r. ⌜ made r (λ v. (vec-items v ≡ encode (givenBy (now (settings .entry)))) × All (λ b. b < 2 ^ 64) (bitsOf (now (settings .entry)))) ⌝ }
+    ensures bytes { λ r. ⌜ made r (λ v. vec-items v ≡ encode (givenBy (now (settings .entry)))) ⌝ }
+    ensures doubles { λ r. ⌜ made r (λ v. All (λ b. b < 2 ^ 64) (bitsOf (now (settings .entry)))) ⌝ }
+    ensures restored { λ r. ⌜ made r (λ v. All Restored (now (settings .entry))) ⌝ }
 {
     let mut file = Vec::new(heap);
     file.extend_from_slice(&(settings.len() as u16).to_le_bytes())?;
@@ -140,11 +144,21 @@ fn push_keys(file: &mut Vec<u8>, settings: &[Setting<'_>]) -> Result<(), AllocEr
     Ok(())
 }
 
+// The bits of a double, which stand for no other.
+fn bits_of(value: f64) -> u64
+    ensures bits { λ r. ⌜ r ≡ toBits binary64 value ⌝ }
+    ensures back { λ r. ⌜ ofBits binary64 (toBits binary64 value) ≡ value ⌝ }
+{
+    f64_to_bits_with_nan(value)
+}
+
 fn push_values(file: &mut Vec<u8>, settings: &[Setting<'_>]) -> Result<(), AllocError>
-    ensures { λ r. ⌜ made r (λ _. (vec-items (now (file .exit)) ≡ vec-items (now (file .entry)) ++ joined (bytesOf 8) (bitsOf (now (settings .entry)))) × All (λ b. b < 2 ^ 64) (bitsOf (now (settings .entry)))) ⌝ }
+    ensures bytes { λ r. ⌜ made r (λ _. vec-items (now (file .exit)) ≡ vec-items (now (file .entry)) ++ joined (bytesOf 8) (bitsOf (now (settings .entry)))) ⌝ }
+    ensures doubles { λ r. ⌜ made r (λ _. All (λ b. b < 2 ^ 64) (bitsOf (now (settings .entry)))) ⌝ }
+    ensures restored { λ r. ⌜ made r (λ _. All Restored (now (settings .entry))) ⌝ }
 {
     for setting in settings {
-        file.extend_from_slice(&f64_to_bits_with_nan(setting.value).to_le_bytes())?;
+        file.extend_from_slice(&bits_of(setting.value).to_le_bytes())?;
     }
     Ok(())
 }

@@ -2,8 +2,9 @@ use Rattle.settings.proofs.Emit.{assembled}
 use Rattle.settings.proofs.writing.encoded.Needs as need
 
 pub returns : need.returns
-returns c = (
-  assembled (c .args .settings .now) _ _ _ _ _ _ (c .new-file .ensures .items) (c .to-le-bytes .ensures) (c .in-Continue-extend-from-slice .ensures tt .items)
-      (c .in-Continue-push-lengths .ensures tt) (c .in-Continue-push-keys .ensures tt) (c .in-Continue-push-values .ensures tt .0),
-  c .in-Continue-push-values .ensures tt .1,
-)
+returns c = record {
+  bytes = assembled (c .args .settings .now) _ _ _ _ _ _ (c .new-file .ensures .items) (c .to-le-bytes .ensures) (c .in-Continue-extend-from-slice .ensures tt .items)
+      (c .in-Continue-push-lengths .ensures tt) (c .in-Continue-push-keys .ensures tt) (c .in-Continue-push-values .ensures tt .bytes);
+  doubles = c .in-Continue-push-values .ensures tt .doubles;
+  restored = c .in-Continue-push-values .ensures tt .restored;
+}

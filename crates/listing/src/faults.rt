@@ -77,7 +77,7 @@ pub impl fmt::Display for ListingError as ListingErrorDisplay {
 }
 
 // What was read of a line, or its fault with the line's number.
-pub fn on_line<T>(line: usize, read: Result<T, Fault>) -> Result<T, ListingError> {
+pub(crate) fn on_line<T>(line: usize, read: Result<T, Fault>) -> Result<T, ListingError> {
     match read {
         Ok(x) => Ok(x),
         Err(fault) => Err(ListingError { line, fault }),
@@ -85,6 +85,6 @@ pub fn on_line<T>(line: usize, read: Result<T, Fault>) -> Result<T, ListingError
 }
 
 // A line that says nothing: it is blank, or a comment.
-pub fn is_skipped(line: &str) -> bool {
+pub(crate) fn is_skipped(line: &str) -> bool {
     line.starts_with('#') || line.trim().is_empty()
 }

@@ -21,7 +21,7 @@ fn is_begun_well(word: &[u8]) -> bool
     true
 }
 
-pub fn read_u8(word: &str) -> Option<u8>
+pub(crate) fn read_u8(word: &str) -> Option<u8>
     ensures { λ r. ⌜ BySome r ((n : ℕ) → n < 2 ^ 8 → now (word .entry) ≡ decimal n → ⊥) (λ n. now (word .entry) ≡ decimal n) ⌝ }
 {
     if !is_begun_well(word.as_bytes()) {
@@ -30,7 +30,7 @@ pub fn read_u8(word: &str) -> Option<u8>
     word.parse::<u8>().ok()
 }
 
-pub fn read_u16(word: &str) -> Option<u16>
+pub(crate) fn read_u16(word: &str) -> Option<u16>
     ensures { λ r. ⌜ BySome r ((n : ℕ) → n < 2 ^ 16 → now (word .entry) ≡ decimal n → ⊥) (λ n. now (word .entry) ≡ decimal n) ⌝ }
 {
     if !is_begun_well(word.as_bytes()) {
@@ -39,7 +39,7 @@ pub fn read_u16(word: &str) -> Option<u16>
     word.parse::<u16>().ok()
 }
 
-pub fn read_u32(word: &str) -> Option<u32>
+pub(crate) fn read_u32(word: &str) -> Option<u32>
     ensures { λ r. ⌜ BySome r ((n : ℕ) → n < 2 ^ 32 → now (word .entry) ≡ decimal n → ⊥) (λ n. now (word .entry) ≡ decimal n) ⌝ }
 {
     if !is_begun_well(word.as_bytes()) {

@@ -1,19 +1,25 @@
--- What becomes of an override under a settings file.
+-- What becomes of an override under a settings file, and what a report says of the file.
 use mathlib.Core.Path.{_≡_}
+use mathlib.Core.List.{List}
 use Prim.Native.Nat.{ℕ, _+_, min}
+use lib.ListN.{length}
 use lib.Ieee as Ieee
 use Rattle.std.specs.declared.option.Option.{Option}
 use Rattle.std.specs.declared.option.Option.the-variants.{Some, None}
+use Rattle.std.specs.declared.result.Result.{Result}
 use Rattle.std.specs.declared.result.Result.the-variants.{Ok, Err}
 use Rattle.rounding.specs.declared.scalars.Scalar.{Scalar}
 use Rattle.rounding.specs.Conversion.{Becomes}
 use Rattle.settings.specs.declared.naming.Identifier.{Identifier}
+use Rattle.settings.specs.declared.file.Settings.{Settings}
 use Rattle.settings.specs.First.{Least, Holds}
-use Rattle.settings.specs.Layout.{Given}
+use Rattle.settings.specs.Layout.{Given, Encodes, Distinct}
 use Rattle.settings.specs.Keys.{Takes}
-use Rattle.settings.specs.Reading.{valueAt}
+use Rattle.settings.specs.Reading.{valueAt, Read}
 use Rattle.report.specs.declared.outcomes.Outcome.{Outcome}
 use Rattle.report.specs.declared.outcomes.Outcome.the-variants.{Made, Refused, Kept, MissingValue, NoIdentifier}
+use Rattle.report.specs.declared.errors.ReportError.{ReportError}
+use Rattle.report.specs.declared.errors.ReportError.the-variants.{Settings as Unread, Text, Unwritten}
 use Rattle.report.specs.declared.outcomes.Tally.{Tally}
 
 -- the override takes the key at k, the first that it could, which has the value x
@@ -43,3 +49,18 @@ counted t (Refused k x e) = record { overrides = more (t .overrides); literals =
 counted t (Kept i) = record { overrides = more (t .overrides); literals = t .literals; inits = more (t .inits); refused = t .refused; untaken = t .untaken }
 counted t MissingValue = record { overrides = more (t .overrides); literals = t .literals; inits = t .inits; refused = more (t .refused); untaken = t .untaken }
 counted t NoIdentifier = record { overrides = more (t .overrides); literals = t .literals; inits = t .inits; refused = more (t .refused); untaken = t .untaken }
+
+-- the file holds settings with no key twice
+abbrev pub Readable : List ℕ → Type 0
+Readable bs = (s : Settings) × Read bs (Ok s)
+
+-- A report is given only of a file that can be read. One that cannot is refused by its own number, and no other is refused so.
+abbrev pub Told : {X : Type 0} → List ℕ → Result X ReportError → Type 0
+Told bs (Ok x) = Readable bs
+Told bs (Err (Unread e)) = Read bs (Err e)
+Told bs (Err (Text e)) = Readable bs
+Told bs (Err (Unwritten l e)) = ⊥
+
+-- the bytes are the file of n settings with no key twice
+abbrev pub Packs : List ℕ → ℕ → Type 0
+Packs bs n = (g : Given) × Encodes bs g × Distinct (g .keys) × (length (g .keys) ≡ n)

@@ -1,10 +1,11 @@
 // The report of a settings file against a module's overrides.
+ghost use Rattle.report.specs.Outcomes.{Told};
 use crate::errors::ReportError;
-use crate::errors::ReportErrorFromAlloc;
-use crate::errors::ReportErrorFromFmt;
-use crate::errors::ReportErrorFromListing;
-use crate::errors::ReportErrorFromRefused;
-use crate::errors::ReportErrorFromSettings;
+use crate::errors::TextError;
+use crate::errors::TextErrorFromAlloc;
+use crate::errors::TextErrorFromFmt;
+use crate::errors::TextErrorFromListing;
+use crate::errors::TextErrorFromRefused;
 use crate::outcomes::Outcome;
 use crate::outcomes::Tally;
 use crate::outcomes::resolve;
@@ -39,7 +40,7 @@ fn put_setting(
     settings: &Settings<'_>,
     i: usize,
     value: f64,
-) -> Result<(), ReportError> {
+) -> Result<(), TextError> {
     let value = ValueText(value);
     match settings.key(i) {
         Some(key) => {
@@ -56,7 +57,7 @@ fn put_outcome(
     out: &mut String,
     settings: &Settings<'_>,
     outcome: &Outcome,
-) -> Result<(), ReportError> {
+) -> Result<(), TextError> {
     match *outcome {
         Outcome::Made {
             key,
@@ -90,7 +91,7 @@ fn put_overrides(
     report: &mut Report,
     settings: &Settings<'_>,
     lines: &[OverrideLine],
-) -> Result<(), ReportError> {
+) -> Result<(), TextError> {
     for (i, line) in lines.iter().enumerate() {
         let outcome = resolve(settings, line.identifier(), line.scalar, line.init);
         let label = Label(line);
@@ -114,7 +115,7 @@ fn put_untaken(
     report: &mut Report,
     settings: &Settings<'_>,
     who: &[Identifier<'_>],
-) -> Result<(), ReportError> {
+) -> Result<(), TextError> {
     for i in 0..settings.len() {
         let (Some(key), Some(value)) = (settings.key(i), settings.value(i)) else {
             continue;
@@ -128,18 +129,29 @@ fn put_untaken(
     Ok(())
 }
 
-// A line for each override, one for each key that no override takes, and a summary.
-pub fn report_literals(heap: Global, file: &[u8], overrides: &str) -> Result<Report, ReportError> {
-    let settings = Settings::read(file)?;
+fn put_report(heap: Global, settings: &Settings<'_>, overrides: &str) -> Result<Report, TextError> {
     let lines = read_overrides(heap, overrides)?;
     let mut report = Report {
         text: String::new(heap),
         tally: Tally::new(),
     };
-    put_overrides(heap, &mut report, &settings, lines.as_slice())?;
+    put_overrides(heap, &mut report, settings, lines.as_slice())?;
     let who = identifiers(heap, lines.as_slice())?;
-    put_untaken(heap, &mut report, &settings, who.as_slice())?;
+    put_untaken(heap, &mut report, settings, who.as_slice())?;
     let tally = report.tally;
     writeln!(report.text, "{tally}")?;
     Ok(report)
+}
+
+// A line for each override, one for each key that no override takes, and a summary.
+pub fn report_literals(heap: Global, file: &[u8], overrides: &str) -> Result<Report, ReportError>
+    ensures { λ r. ⌜ Told (now (file .entry)) r ⌝ }
+{
+    match Settings::read(file) {
+        Ok(settings) => match put_report(heap, &settings, overrides) {
+            Ok(report) => Ok(report),
+            Err(error) => Err(ReportError::Text(error)),
+        },
+        Err(error) => Err(ReportError::Settings(error)),
+    }
 }

@@ -88,7 +88,7 @@ pub struct Tally {
 }
 
 impl Tally {
-    pub fn new() -> Tally
+    pub(crate) fn new() -> Tally
         ensures { λ r. ⌜ r ≡ record { overrides = 0; literals = 0; inits = 0; refused = 0; untaken = 0 } ⌝ }
     {
         Tally {
@@ -100,7 +100,7 @@ impl Tally {
         }
     }
 
-    pub fn count(&mut self, outcome: &Outcome)
+    pub(crate) fn count(&mut self, outcome: &Outcome)
         ensures { λ _. ⌜ now (self .exit) ≡ counted (now (self .entry)) (now (outcome .entry)) ⌝ }
     {
         self.overrides = self.overrides.saturating_add(1);
@@ -111,7 +111,7 @@ impl Tally {
         }
     }
 
-    pub fn count_untaken(&mut self)
+    pub(crate) fn count_untaken(&mut self)
         ensures { λ _. ⌜ now (self .exit) ≡ record { overrides = now (self .entry) .overrides; literals = now (self .entry) .literals; inits = now (self .entry) .inits; refused = now (self .entry) .refused; untaken = more (now (self .entry) .untaken) } ⌝ }
     {
         self.untaken = self.untaken.saturating_add(1);

@@ -1,10 +1,13 @@
 // A settings file from its text, and its text from a settings file.
+ghost use Rattle.std.specs.Of.Vec.{vec-items};
+ghost use Rattle.std.specs.Vec.{made};
+ghost use Rattle.report.specs.Outcomes.{Told, Packs};
 use crate::errors::ReportError;
-use crate::errors::ReportErrorFromAlloc;
-use crate::errors::ReportErrorFromFmt;
-use crate::errors::ReportErrorFromListing;
-use crate::errors::ReportErrorFromRefused;
-use crate::errors::ReportErrorFromSettings;
+use crate::errors::TextError;
+use crate::errors::TextErrorFromAlloc;
+use crate::errors::TextErrorFromFmt;
+use crate::errors::TextErrorFromListing;
+use crate::errors::TextErrorFromRefused;
 use crate::shown::Many;
 use crate::shown::ManyDisplay;
 use listing::SettingLine;
@@ -56,9 +59,22 @@ fn blamed(lines: &[SettingLine], error: &WriteError) -> Option<usize> {
     Some(line.line)
 }
 
-pub fn pack(heap: Global, text: &str) -> Result<Packed, ReportError> {
-    let lines = read_settings(heap, text)?;
-    let all = lent(heap, lines.as_slice())?;
+fn read_lines(heap: Global, text: &str) -> Result<Vec<SettingLine>, TextError> {
+    Ok(read_settings(heap, text)?)
+}
+
+// The settings file of a text.
+pub fn pack(heap: Global, text: &str) -> Result<Packed, ReportError>
+    ensures { λ r. ⌜ made r (λ p. Packs (vec-items (p .bytes)) (p .settings)) ⌝ }
+{
+    let lines = match read_lines(heap, text) {
+        Ok(lines) => lines,
+        Err(error) => return Err(ReportError::Text(error)),
+    };
+    let all = match lent(heap, lines.as_slice()) {
+        Ok(all) => all,
+        Err(_) => return Err(ReportError::Text(TextError::OutOfMemory)),
+    };
     match settings::write(heap, all.as_slice()) {
         Ok(bytes) => Ok(Packed {
             settings: all.len(),
@@ -71,9 +87,7 @@ pub fn pack(heap: Global, text: &str) -> Result<Packed, ReportError> {
     }
 }
 
-// A line `key = value` for each setting, which `pack` reads.
-pub fn unpack(heap: Global, file: &[u8]) -> Result<String, ReportError> {
-    let settings = Settings::read(file)?;
+fn settings_text(heap: Global, settings: &Settings<'_>) -> Result<String, TextError> {
     let mut out = String::new(heap);
     for i in 0..settings.len() {
         if let (Some(key), Some(value)) = (settings.key(i), settings.value(i)) {
@@ -83,4 +97,17 @@ pub fn unpack(heap: Global, file: &[u8]) -> Result<String, ReportError> {
         }
     }
     Ok(out)
+}
+
+// A line `key = value` for each setting, which `pack` reads.
+pub fn unpack(heap: Global, file: &[u8]) -> Result<String, ReportError>
+    ensures { λ r. ⌜ Told (now (file .entry)) r ⌝ }
+{
+    match Settings::read(file) {
+        Ok(settings) => match settings_text(heap, &settings) {
+            Ok(text) => Ok(text),
+            Err(error) => Err(ReportError::Text(error)),
+        },
+        Err(error) => Err(ReportError::Settings(error)),
+    }
 }

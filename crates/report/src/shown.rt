@@ -29,7 +29,7 @@ pub impl fmt::Display for Label<'_> as LabelDisplay {
 }
 
 // The number that a half's bits stand for.
-pub fn half_value(bits: u16) -> f64 {
+pub(crate) fn half_value(bits: u16) -> f64 {
     let field = i32::from((bits >> 10) & 31);
     let mantissa = f64::from(bits & 1023);
     let size = if field == 0 {

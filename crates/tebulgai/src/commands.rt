@@ -11,6 +11,7 @@ use crate::words::HELP;
 use crate::words::read_command;
 use report::PackedDisplay;
 use report::ReportError;
+use report::TextError;
 use report::pack;
 use report::report_literals;
 use report::unpack;
@@ -19,7 +20,7 @@ use std::env;
 // The file that an error of `literals` is about.
 fn blamed<'p>(error: &ReportError, settings: &'p str, overrides: &'p str) -> &'p str {
     match error {
-        ReportError::Listing(_) => overrides,
+        ReportError::Text(TextError::Listing(_)) => overrides,
         _ => settings,
     }
 }
@@ -58,7 +59,7 @@ fn run_unpack(rt: &LibcRuntime, settings: &str) -> Result<(), Failure> {
     Ok(())
 }
 
-pub fn run(rt: &LibcRuntime) -> Result<(), Failure> {
+pub(crate) fn run(rt: &LibcRuntime) -> Result<(), Failure> {
     let words: Vec<String> = env::args(rt)?.skip(1).collect(rt.alloc())?;
     match read_command(words.as_slice()) {
         Some(

@@ -7,7 +7,7 @@ use std::fs;
 use std::io;
 
 // What was done to the file, or its error with the path.
-pub fn on_file<T>(heap: Global, path: &str, done: io::Result<T>) -> Result<T, Failure> {
+pub(crate) fn on_file<T>(heap: Global, path: &str, done: io::Result<T>) -> Result<T, Failure> {
     match done {
         Ok(x) => Ok(x),
         Err(error) => match String::from_str(heap, path) {
@@ -18,7 +18,11 @@ pub fn on_file<T>(heap: Global, path: &str, done: io::Result<T>) -> Result<T, Fa
 }
 
 // What was made of the file's content, or its error with the path.
-pub fn in_file<T>(heap: Global, path: &str, made: Result<T, ReportError>) -> Result<T, Failure> {
+pub(crate) fn in_file<T>(
+    heap: Global,
+    path: &str,
+    made: Result<T, ReportError>,
+) -> Result<T, Failure> {
     match made {
         Ok(x) => Ok(x),
         Err(error) => match String::from_str(heap, path) {
@@ -28,11 +32,11 @@ pub fn in_file<T>(heap: Global, path: &str, made: Result<T, ReportError>) -> Res
     }
 }
 
-pub fn load(rt: &LibcRuntime, path: &str) -> Result<Vec<u8>, Failure> {
+pub(crate) fn load(rt: &LibcRuntime, path: &str) -> Result<Vec<u8>, Failure> {
     on_file(rt.alloc(), path, fs::read(rt, path))
 }
 
-pub fn load_text(rt: &LibcRuntime, path: &str) -> Result<String, Failure> {
+pub(crate) fn load_text(rt: &LibcRuntime, path: &str) -> Result<String, Failure> {
     on_file(rt.alloc(), path, fs::read_to_string(rt, path))
 }
 
@@ -42,7 +46,7 @@ fn write_and_rename(rt: &LibcRuntime, part: &str, path: &str, bytes: &[u8]) -> i
 }
 
 // Writes beside the file first, so that the file is never half written.
-pub fn store(rt: &LibcRuntime, path: &str, bytes: &[u8]) -> Result<(), Failure> {
+pub(crate) fn store(rt: &LibcRuntime, path: &str, bytes: &[u8]) -> Result<(), Failure> {
     let heap = rt.alloc();
     let part = format!(heap, "{path}.part")?;
     let done = write_and_rename(rt, part.as_str(), path, bytes);

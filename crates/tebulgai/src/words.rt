@@ -36,7 +36,7 @@ pub enum Command<'w> {
 }
 
 // The words after the program's own name.
-pub fn read_command(words: &[String]) -> Option<Command<'_>> {
+pub(crate) fn read_command(words: &[String]) -> Option<Command<'_>> {
     let (name, rest) = words.split_first()?;
     match (name.as_str(), rest) {
         ("literals", [settings, overrides]) => {

@@ -3,7 +3,7 @@ use mathlib.Core.Bool.{Bool, cond, not, _&&_}
 use mathlib.Core.List.{List, [], _∷_, _++_}
 use mathlib.Core.Logic.{_⊎_}
 use mathlib.Core.Path.{_≡_}
-use Prim.Native.Nat.{ℕ, _<_, _/_, _%_}
+use Prim.Native.Nat.{ℕ, _-_, _<_, _/_, _%_}
 use lib.Dec.{T, eqb, leb}
 use lib.ListN.{length, getD}
 use Rattle.std.specs.Text.{digitChar}
@@ -31,9 +31,13 @@ inner (b ∷ bs) = byteText b ++ inner bs
 abbrev pub Bytes : List ℕ → Type 0
 Bytes bs = (k : ℕ) → getD bs k 0 < 256
 
-abbrev pub Plain : List ℕ → Type 0
-Plain key = (0 < length key) × ((k : ℕ) → k < length key → T (plainByte (getD key k 0)))
+-- something, with no space at either end and no # in front
+abbrev pub PlainEnds : List ℕ → Type 0
+PlainEnds key = (0 < length key) × (getD key 0 0 ≡ 32 → ⊥) × (getD key 0 0 ≡ 35 → ⊥) × (getD key (length key - 1) 0 ≡ 32 → ⊥)
 
--- bs is the text of key
+abbrev pub Plain : List ℕ → Type 0
+Plain key = PlainEnds key × ((k : ℕ) → k < length key → T (plainByte (getD key k 0)))
+
+-- bs is the text of key: the key itself only where it is plain
 abbrev pub Shown : List ℕ → List ℕ → Type 0
 Shown key bs = ((bs ≡ key) × Plain key) ⊎ (bs ≡ 34 ∷ (inner key ++ (34 ∷ [])))

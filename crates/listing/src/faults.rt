@@ -14,6 +14,7 @@ pub enum Fault {
     BadInit,
     NoEquals,
     NoKey,
+    NotPlain,
     BadQuotes,
     BadValue,
     OutOfMemory,
@@ -31,6 +32,8 @@ impl Fault {
             Fault::BadInit => "the init is neither - nor init and a number below 4294967295",
             Fault::NoEquals => "no = between a key and its value",
             Fault::NoKey => "no key before the =: the empty key is written \"\"",
+            Fault::NotPlain =>
+                "a key with other bytes than plain text, a space at an end or # in front stands in quotes",
             Fault::BadQuotes =>
                 "the key in quotes is not printable text with \\xNN for every other byte",
             Fault::BadValue => "the value is not a number",
@@ -86,5 +89,5 @@ pub(crate) fn on_line<T>(line: usize, read: Result<T, Fault>) -> Result<T, Listi
 
 // A line that says nothing: it is blank, or a comment.
 pub(crate) fn is_skipped(line: &str) -> bool {
-    line.starts_with('#') || line.trim().is_empty()
+    line.trim_start().starts_with('#') || line.trim().is_empty()
 }

@@ -5,15 +5,15 @@
 ghost use mathlib.Core.Path.{_≡_};
 ghost use mathlib.Core.List.{List, [], _∷_, _++_};
 ghost use Prim.Native.Nat.{ℕ, _<_, _≤_};
-ghost use lib.Dec.{T};
 ghost use lib.ListN.{length};
 ghost use Rattle.std.specs.Of.String.{string-bytes};
 ghost use Rattle.std.specs.Of.Vec.{vec-items};
 ghost use Rattle.std.specs.Options.{Cases as BySome};
+ghost use Rattle.std.specs.Orderings.{Decides};
 ghost use Rattle.std.specs.Results.{Cases};
 ghost use Rattle.std.specs.Text.{digitValue, digitChar};
 ghost use Rattle.std.specs.Vec.{made};
-ghost use Rattle.listing.specs.Quotes.{plainByte, shownByte, escape, byteText, inner, Bytes, Plain, Shown};
+ghost use Rattle.listing.specs.Quotes.{plainByte, shownByte, escape, byteText, inner, Bytes, PlainEnds, Plain, Shown};
 ghost use Rattle.listing.specs.declared.faults.Fault.the-variants.{BadQuotes, OutOfMemory as NoMemory};
 use crate::faults::Fault;
 use crate::faults::FaultFromAlloc;
@@ -35,19 +35,25 @@ fn is_shown(b: u8) -> bool
     is_plain_byte(b) && b != b'\\'
 }
 
+// Whether there is something, with no space at either end and no # in front.
 fn has_plain_ends(key: &[u8]) -> bool
-    ensures { λ r. ⌜ (T r → 0 < length (now (key .entry))) ⌝ }
+    ensures { λ r. ⌜ Decides r (PlainEnds (now (key .entry))) ⌝ }
 {
     if key.is_empty() {
         return false;
     }
-    let first = key[0];
-    let last = key[key.len() - 1];
-    first != b' ' && first != b'#' && last != b' '
+    if key[0] == b' ' {
+        return false;
+    }
+    if key[0] == b'#' {
+        return false;
+    }
+    key[key.len() - 1] != b' '
 }
 
+// Whether a key may stand as it is.
 fn is_plain(key: &[u8]) -> bool
-    ensures { λ r. ⌜ (T r → Plain (now (key .entry))) ⌝ }
+    ensures { λ r. ⌜ Decides r (Plain (now (key .entry))) ⌝ }
 {
     for b in key {
         if !is_plain_byte(*b) {
@@ -202,6 +208,9 @@ pub fn read_key_text(heap: Global, text: &[u8]) -> Result<Vec<u8>, Fault>
     }
     if text[0] == b'"' {
         return read_quoted(heap, &text[1..]);
+    }
+    if !is_plain(text) {
+        return Err(Fault::NotPlain);
     }
     Ok(Vec::from_slice(heap, text)?)
 }

@@ -48,7 +48,7 @@ impl OverrideLine {
 }
 
 fn read_id(word: &str) -> Result<Option<u16>, Fault>
-    ensures { λ r. ⌜ Cases r (λ o. BySome o (now (word .entry) ≡ codes "-") (λ n. now (word .entry) ≡ decimal n)) (λ e. (e ≡ BadId) × ((n : ℕ) → n < 2 ^ 16 → now (word .entry) ≡ decimal n → ⊥)) ⌝ }
+    ensures { λ r. ⌜ Cases r (λ o. BySome o (now (word .entry) ≡ codes "-") (λ n. now (word .entry) ≡ decimal n)) (λ e. (e ≡ BadId) × (now (word .entry) ≡ codes "-" → ⊥) × ((n : ℕ) → n < 2 ^ 16 → now (word .entry) ≡ decimal n → ⊥)) ⌝ }
 {
     if word == "-" {
         return Ok(None);
@@ -60,7 +60,7 @@ fn read_id(word: &str) -> Result<Option<u16>, Fault>
 }
 
 fn read_name(heap: Global, word: &str) -> Result<Option<String>, AllocError>
-    ensures { λ r. ⌜ made r (λ o. BySome o (now (word .entry) ≡ codes "-") (λ s. string-bytes s ≡ now (word .entry))) ⌝ }
+    ensures { λ r. ⌜ made r (λ o. BySome o (now (word .entry) ≡ codes "-") (λ s. (string-bytes s ≡ now (word .entry)) × (now (word .entry) ≡ codes "-" → ⊥))) ⌝ }
 {
     if word == "-" {
         return Ok(None);
@@ -83,8 +83,8 @@ fn read_init(words: &[&str]) -> Result<Option<u32>, Fault> {
         [] => Err(Fault::TooFewWords),
         [word] if *word == "-" => Ok(None),
         [word, handle] if *word == "init" => Ok(Some(read_handle(handle)?)),
-        [_] => Err(Fault::BadInit),
-        _ => Err(Fault::TooManyWords),
+        [word, _, ..] if *word == "-" || *word == "init" => Err(Fault::TooManyWords),
+        _ => Err(Fault::BadInit),
     }
 }
 

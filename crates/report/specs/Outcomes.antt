@@ -30,14 +30,18 @@ Takes-value g who k x = Least (Holds (Takes who) (g .keys)) (Some k) × (valueAt
 abbrev pub No-value : Given → Identifier → Type 0
 No-value g who = (k : Option ℕ) × Least (Holds (Takes who) (g .keys)) k × (valueAt g k ≡ None)
 
+-- the override has neither id nor name
+abbrev pub Nameless : Identifier → Type 0
+Nameless who = (who .id ≡ None) × (who .name ≡ None)
+
 -- An override with neither id nor name is refused with 7. The value of the key that it takes becomes a literal by the rule, or is refused by it.
 -- With no value the init stays, and with no init either it is refused with 8.
 abbrev pub Resolved : Given → Identifier → Scalar → Option ℕ → Outcome → Type 0
 Resolved g who scalar init (Made k x l) = Takes-value g who k x × Becomes scalar x (Ok l)
 Resolved g who scalar init (Refused k x e) = Takes-value g who k x × Becomes scalar x (Err e)
-Resolved g who scalar init (Kept i) = No-value g who × (init ≡ Some i)
-Resolved g who scalar init MissingValue = No-value g who × (init ≡ None)
-Resolved g who scalar init NoIdentifier = (who .id ≡ None) × (who .name ≡ None)
+Resolved g who scalar init (Kept i) = No-value g who × (init ≡ Some i) × (Nameless who → ⊥)
+Resolved g who scalar init MissingValue = No-value g who × (init ≡ None) × (Nameless who → ⊥)
+Resolved g who scalar init NoIdentifier = Nameless who
 
 -- one more, up to the largest count
 abbrev pub more : ℕ → ℕ

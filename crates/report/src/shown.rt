@@ -89,13 +89,12 @@ fn hex_digits(literal: Literal) -> u8 {
 }
 
 fn put_bits<W: fmt::Write>(f: &mut fmt::Formatter<W>, literal: Literal) -> fmt::Result {
-    let [_, low, high] = literal.words();
-    let short = low & 0xffff;
+    let bits = literal.bits();
     match hex_digits(literal) {
-        1 => write!(f, "bits 0x{low:x}"),
-        4 => write!(f, "bits 0x{short:04x}"),
-        8 => write!(f, "bits 0x{low:08x}"),
-        _ => write!(f, "bits 0x{high:08x}{low:08x}"),
+        1 => write!(f, "bits 0x{bits:x}"),
+        4 => write!(f, "bits 0x{bits:04x}"),
+        8 => write!(f, "bits 0x{bits:08x}"),
+        _ => write!(f, "bits 0x{bits:016x}"),
     }
 }
 

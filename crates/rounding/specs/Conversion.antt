@@ -1,6 +1,8 @@
 -- What a pipeline value, a double, becomes for a scalar type. A finite double is a whole number of units, each 2^-1074.
 use Prim.Native.Nat.{ℕ, _+_, _-_, _^_}
 use mathlib.Core.Path.{_≡_}
+use mathlib.Core.List.{List}
+use lib.Chars.{codes}
 use mathlib.Core.Bool.{cond, _&&_}
 use lib.Dec.{ltb, eqb}
 use lib.IntN.{ℤ, pos, negsuc, natAbs}
@@ -30,6 +32,12 @@ abbrev pub codeOf : ConversionError → ℕ
 codeOf SrcNeedsToBeFinite = 9
 codeOf DstRangeTooSmall = 10
 codeOf UnsupportedScalar = 11
+
+-- how a refusal is told
+abbrev pub toldAs : ConversionError → List ℕ
+toldAs SrcNeedsToBeFinite = codes "the value is not finite"
+toldAs DstRangeTooSmall = codes "the value does not fit the type"
+toldAs UnsupportedScalar = codes "no literal has this scalar type"
 
 abbrev pub Refused : {X : Type 0} → Answer X → ℕ → Type 0
 Refused (Ok v) code = ⊥

@@ -1,15 +1,16 @@
 // A pipeline value as a typed literal.
 //
-// naga's `map_value_to_literal` with its checks in its order: a value for a scalar that no literal
-// has is refused first, then what is not finite, then what does not fit.
+// naga's `map_value_to_literal`. A value for a scalar that no literal has, where naga panics, is
+// refused first; then what is not finite, then what does not fit, as there.
 ghost use mathlib.Core.Path.{_≡_};
 ghost use Prim.Native.Nat.{_*_, _^_, _<_};
 ghost use lib.Signed.{_≤ℤ_};
 ghost use Rattle.std.specs.Vec.{made};
+ghost use Rattle.std.specs.declared.option.Option.the-variants.{Some};
 ghost use Rattle.rounding.specs.Shifts.{Narrow, Held};
 ghost use Rattle.rounding.specs.Formats.{signBit};
 ghost use Rattle.rounding.specs.Doubles.{truth};
-ghost use Rattle.rounding.specs.Conversion.{codeOf, Whole, Rounds, OfKind, Pinned};
+ghost use Rattle.rounding.specs.Conversion.{codeOf, toldAs, Whole, Rounds, OfKind, Pinned};
 use crate::formats::Format;
 use crate::formats::HALF;
 use crate::formats::SINGLE;
@@ -41,11 +42,13 @@ impl ConversionError {
 }
 
 pub impl fmt::Display for ConversionError as ConversionErrorDisplay {
+    ghost shown = { λ e. Some (toldAs e) };
+
     fn fmt<W: fmt::Write>(&self, f: &mut fmt::Formatter<W>) -> fmt::Result {
-        match *self {
-            ConversionError::SrcNeedsToBeFinite => f.write_str("the value is not finite"),
-            ConversionError::DstRangeTooSmall => f.write_str("the value does not fit the type"),
-            ConversionError::UnsupportedScalar => f.write_str("no literal has this scalar type"),
+        match self {
+            ConversionError::SrcNeedsToBeFinite => write!(f, "the value is not finite"),
+            ConversionError::DstRangeTooSmall => write!(f, "the value does not fit the type"),
+            ConversionError::UnsupportedScalar => write!(f, "no literal has this scalar type"),
         }
     }
 }

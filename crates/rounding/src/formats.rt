@@ -25,6 +25,9 @@ pub(crate) const SINGLE: Format = Format {
     emax: 127,
 };
 
+// A significand that is shifted further is less than half of the smallest value.
+const LONGEST_SHIFT: u64 = 54;
+
 // The significand of a finite double, and how often it is doubled.
 fn parts(bits: u64) -> (u64, u64)
     requires { ⌜ bits < infinity double ⌝ }
@@ -117,8 +120,7 @@ impl Format {
     {
         let (m, exponent) = parts(bits);
         let (drop, field) = places(exponent, self);
-        if 54 < drop {
-            // less than half of the smallest value
+        if drop > LONGEST_SHIFT {
             return 0;
         }
         let pattern = self.fields(field) + rounded_shift(m, drop);

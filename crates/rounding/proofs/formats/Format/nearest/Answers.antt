@@ -42,12 +42,12 @@ rounded-lt m s r h ro =
       ]
     ]
 
-pub returns-then-drop-gt54 : need.returns-then-drop-gt54
-returns-then-drop-gt54 c =
+pub returns-then-drop-gt-LONGEST-SHIFT : need.returns-then-drop-gt-LONGEST-SHIFT
+returns-then-drop-gt-LONGEST-SHIFT c =
     let f = c .args .self in
     let p = c .places-drop .result in
     let pl : Places f (doublings double (c .args .bits)) (p .0) (p .1) = placed f _ (c .parts-m .result .1) (p .0) (p .1) (c .parts-m .ensures .1) (c .places-drop .ensures) in
-    zero-of f (c .pre .narrow) (c .args .bits) (p .0) (c .if-drop-gt54 .taken) (too-many f _ (p .0) (p .1) (c .pre .narrow) (c .if-drop-gt54 .taken) pl)
+    zero-of f (c .pre .narrow) (c .args .bits) (p .0) (c .if-drop-gt-LONGEST-SHIFT .taken) (too-many f _ (p .0) (p .1) (c .pre .narrow) (c .if-drop-gt-LONGEST-SHIFT .taken) pl)
 
 pub rounded-shift-requires : need.rounded-shift-requires
 rounded-shift-requires c κs =

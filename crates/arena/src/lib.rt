@@ -1,5 +1,7 @@
 // Tables by handle: ranges of handles, values kept by handle in lent storage, tables with a limit, and the entries of an arena with
 // their operand list. Uses no other crate.
+#![tactic(auto)]
+
 mod arena;
 mod entry;
 mod handle_vec;

@@ -1,5 +1,7 @@
 // Times a settings file of the largest size: 4,096 keys of 255 bytes that differ in their last two
 // bytes alone. What was found goes to standard output, the times to standard error.
+#![tactic(auto)]
+
 use anyhow::anyhow;
 use settings::{Identifier, Setting, Settings};
 use std::alloc::{AllocError, Global};

@@ -1,5 +1,7 @@
 // Times the checks on tables of the largest size, plain ones and ones whose long runs overlap. What was found goes to standard
 // output, the times to standard error.
+#![tactic(auto)]
+
 use arena::{ABSENT, Entry, Handle, Run, Span};
 use ir::{Body, Record, Size, Sizes, Source, check_body, check_source};
 use refusals::Refusal;

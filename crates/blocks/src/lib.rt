@@ -1,5 +1,7 @@
 // A body is a flat list of records that is exactly one block: Open, statements, Close. Some kinds of record ask for blocks after
 // them, which the table of kinds says. Blocks nest at most 64 deep, the outermost being the first.
+#![tactic(auto)]
+
 ghost use Rattle.std.specs.Prelude.{◌≡◌, ℕ, List, [], ◌∷◌, Decides, slice_index_or};
 ghost use Rattle.arena.specs.Nodes.{nodes};
 ghost use Rattle.blocks.specs.declared.Role.TheVariants.{Opening, Closing, Doing};

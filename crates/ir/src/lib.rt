@@ -1,4 +1,6 @@
 // The tables of a module and of a body, and their checks: whatever they hold, the answer is the first thing that is wrong.
+#![tactic(auto)]
+
 mod body;
 mod source;
 mod tables;

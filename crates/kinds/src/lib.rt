@@ -2,6 +2,8 @@
 //
 // There is one table for the 34 kinds of expression and one for the 25 kinds of record; all that reads, checks or rewrites an
 // operand goes by them.
+#![tactic(auto)]
+
 ghost use Rattle.std.specs.Prelude.{◌≡◌, ℕ};
 ghost use Rattle.std.specs.List.{slice_get};
 ghost use Rattle.kinds.specs.Kinds.{expressions, records, admitted, front_length_of, slot_at, needed_slot, result_slot, blocks_of};

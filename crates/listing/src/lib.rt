@@ -1,4 +1,6 @@
 // The texts that planners write and read: the overrides of a module, and the settings for them.
+#![tactic(auto)]
+
 mod faults;
 mod keys;
 mod numbers;

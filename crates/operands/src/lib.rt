@@ -2,6 +2,8 @@
 //
 // Runs may overlap, and long ones in many entries. An operand that is right for an entry is right for every later one, so each place
 // is looked at once, and the work is in proportion to the tables.
+#![tactic(auto)]
+
 ghost use Rattle.std.specs.Prelude.{◌≡◌, ℕ, ◌+◌, ◌<◌, ◌≤◌, min, true, ◌&&◌, ◌⊎◌, length, take, if◌then◌else◌, Some, None, Decides, ◌==◌, nat_le};
 ghost use Rattle.kinds.specs.Kinds.{needed_slot, slot_at};
 ghost use Rattle.places.specs.First.{Least, Over, Holds};

@@ -2,6 +2,8 @@
 //
 // A place is a table and an index in it. A check goes through the tables in the order of their numbers, and in each to the
 // least index that is at fault.
+#![tactic(auto)]
+
 ghost use Rattle.std.specs.Prelude.{◌≡◌, ℕ, ◌<◌, ◌⊎◌, length, take, Decides};
 ghost use Rattle.places.specs.First.{Least, Holds, Over, Checked, lesser_of, number_of};
 

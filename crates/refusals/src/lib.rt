@@ -1,4 +1,6 @@
 // Why a module, a body, a settling or a specialising is refused: seventeen reasons, each with a number and values.
+#![tactic(auto)]
+
 mod words;
 
 ghost use Rattle.std.specs.Prelude.{◌≡◌};

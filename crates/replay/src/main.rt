@@ -1,6 +1,8 @@
 // Replays a stored list of conversions: for each double of the list and each of eight types of scalar, the crate
 // `rounding` has to make the literal, or give the error, that naga's Rust gave. The list comes by standard input,
 // and its first lines say how it was made and how a line reads.
+#![tactic(auto)]
+
 use anyhow::anyhow;
 use rounding::{Scalar, ScalarKind, map_value_to_literal};
 use std::num::f64_from_bits_with_nan;

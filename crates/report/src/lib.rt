@@ -1,4 +1,6 @@
 // What each command says, as text made from the bytes and the texts that it reads.
+#![tactic(auto)]
+
 mod errors;
 mod literals;
 mod outcomes;

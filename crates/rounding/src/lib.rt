@@ -2,6 +2,8 @@
 //
 // `map_value_to_literal` is naga's function of that name; its rule is in specs/Conversion.antt. It
 // relies on nothing but `std`. Whoever settles overrides sees this promise alone.
+#![tactic(auto)]
+
 ghost use Rattle.rounding.specs.Formats.{StandIns};
 ghost use Rattle.rounding.specs.Nearest.{NearestIsOne};
 ghost use Rattle.rounding.specs.Doubles.{UnitsExact};

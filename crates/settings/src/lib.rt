@@ -2,6 +2,8 @@
 //
 // A file is a count of at most `MOST_SETTINGS`, as two bytes, the lowest first; so many lengths of keys, a byte each;
 // the keys, one after the other; and so many doubles, eight bytes each, the lowest first. Nothing follows.
+#![tactic(auto)]
+
 mod error;
 mod file;
 mod naming;

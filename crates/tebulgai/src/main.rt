@@ -1,4 +1,6 @@
 // Values for the overrides of a shader module: packed, unpacked, and turned into literals.
+#![tactic(auto)]
+
 mod commands;
 mod failures;
 mod files;

@@ -7,4 +7,4 @@ use Rattle.rounding.proofs.formats_stand.Goals as goal
 
 pub returns : goal.returns
 unfolding magnitude
-returns c = record { one = nearest_is_one; stand-ins = (refl, refl); agrees = agrees; exact = exact }
+returns c = record { one = nearest_is_one; stand_ins = (refl, refl); agrees = agrees; exact = exact }

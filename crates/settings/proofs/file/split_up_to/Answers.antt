@@ -4,6 +4,6 @@ use Rattle.settings.proofs.file.split_up_to.Goals as goal
 
 pub returns : goal.returns
 returns c = record {
-  front = c.split-at.ensures.front ∙ take_up_to _ c.args.n c.args.bytes.now c.min.ensures;
-  back = c.split-at.ensures.back ∙ drop_up_to _ c.args.n c.args.bytes.now c.min.ensures;
+  front = c.split_at.ensures.front ∙ take_up_to _ c.args.n c.args.bytes.now c.min.ensures;
+  back = c.split_at.ensures.back ∙ drop_up_to _ c.args.n c.args.bytes.now c.min.ensures;
 }

@@ -7,7 +7,7 @@ use Rattle.settings.proofs.naming.number.Goals as goal
 
 pub loop-b-preserved : goal.loop-b-preserved
 loop-b-preserved c = (
-  c.if-n-gt-LARGEST-NUMBER.false,
+  c.if-n-gt-LARGEST_NUMBER.false,
   read_more c.args.bytes.now c.loop-b.b-index c.loop-b.n c.loop-b-test.true c.loop-b.invariant.1 c.loop-b.invariant.2,
   digits_more c.args.bytes.now c.loop-b.b-index c.loop-b.n c.loop-b-test.true c.loop-b.invariant.1 c.loop-b.invariant.2 c.if-b-lt48.false c.if-b-gt57.false,
 )

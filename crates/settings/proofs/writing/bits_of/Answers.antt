@@ -5,6 +5,6 @@ use Rattle.settings.proofs.writing.bits_of.Goals as goal
 
 pub returns : goal.returns
 returns c = record {
-  bits = c.f64-to-bits-with-nan.ensures;
-  back = of_bits-to_bits binary64 c.args.value (passes (fits binary64 c.args.value) c.well-formed.0.1);
+  bits = c.f64_to_bits_with_nan.ensures;
+  back = of_bits-to_bits binary64 c.args.value (passes (fits binary64 c.args.value) c.good.0.1);
 }

@@ -11,9 +11,9 @@ pub loop-i-preserved : goal.loop-i-preserved
 loop-i-preserved c =
     let i = c.loop-i.i in let ss = c.args.settings.now in
     let here = nth_map (λ s. s.key.now) ss i _ (slice_get-get_or ss i _ c.loop-i-test.true) in
-    let q = ap keys_of c.split-at.ensures.front ∙ sym (take-map (λ s. s.key.now) i ss) in
+    let q = ap keys_of c.split_at.ensures.front ∙ sym (take-map (λ s. s.key.now) i ss) in
     below_more _ _ c.loop-i.invariant
-    (not_here (λ k. Among k (take i (keys_of ss))) (keys_of ss) i _ here (λ a. not_from_Decides _ c.is-key.ensures c.if-is-key.false (subst (Among _) (sym q) a)))
+    (not_here (λ k. Among k (take i (keys_of ss))) (keys_of ss) i _ here (λ a. not_from_Decides _ c.is_key.ensures c.if-is_key.false (subst (Among _) (sym q) a)))
 
 pub returns-then-is-key : goal.returns-then-is-key
 returns-then-is-key c =

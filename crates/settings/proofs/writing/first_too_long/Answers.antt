@@ -9,7 +9,7 @@ pub loop-i-preserved : goal.loop-i-preserved
 loop-i-preserved c =
     below_more _ _ c.loop-i.invariant
     (not_here (λ k. 255 < length k) (keys_of c.args.settings.now) c.loop-i.i _
-    (nth_map (λ s. s.key.now) c.args.settings.now c.loop-i.i _ (slice_get-get_or c.args.settings.now c.loop-i.i _ c.loop-i-test.true)) (not_above 255 _ c.if-setting-gt-LONGEST-KEY.false))
+    (nth_map (λ s. s.key.now) c.args.settings.now c.loop-i.i _ (slice_get-get_or c.args.settings.now c.loop-i.i _ c.loop-i-test.true)) (not_above 255 _ c.if-setting-gt-LONGEST_KEY.false))
 
 pub returns-then-setting-gt-LONGEST-KEY : goal.returns-then-setting-gt-LONGEST-KEY
 returns-then-setting-gt-LONGEST-KEY c =

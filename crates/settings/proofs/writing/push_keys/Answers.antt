@@ -8,7 +8,7 @@ use Rattle.settings.proofs.writing.push_keys.Goals as goal
 pub loop-setting-preserved : goal.loop-setting-preserved
 loop-setting-preserved c =
     keys_more c.args.settings.now c.loop-setting.setting-index _ c.loop-setting-test.true (vec_items c.args.file.now) _ _ c.loop-setting.invariant
-    c.in-ok-extend-from-slice.ensures.items
+    c.in_ok-extend_from_slice.ensures.items
 
 pub returns : goal.returns
 returns c =

@@ -10,7 +10,7 @@ overflow-cast-setting c = short_fits c.args.settings.now c.loop-setting.setting-
 pub loop-setting-preserved : goal.loop-setting-preserved
 loop-setting-preserved c =
     lengths_more c.args.settings.now c.loop-setting.setting-index _ c.loop-setting-test.true (vec_items c.args.file.now) _ _ c.loop-setting.invariant
-    c.in-ok-push.ensures.items
+    c.in_ok-push.ensures.items
 
 pub returns : goal.returns
 returns c =

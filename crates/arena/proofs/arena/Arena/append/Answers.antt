@@ -28,8 +28,8 @@ invariant-of-self c =
 pub returns : goal.returns
 returns c =
     let a = c.args.self.now in
-    let es = c.push-reserved.ensures.items in
-    let os = c.extend-reserved.ensures.items in
+    let es = c.push_reserved.ensures.items in
+    let os = c.extend_reserved.ensures.items in
     record {
       cases =
           record {

@@ -73,8 +73,8 @@ returns c =
     let p = c.places-drop.result in
     let b = c.args.bits in
     let pl : Places f (doublings double b) p.0 p.1 = placed f _ c.parts-m.result.1 p.0 p.1 c.parts-m.ensures.1 c.places-drop.ensures in
-    let ro : Rounded (significand double b) (2 ^ p.0) c.rounded-shift.result = rw (sym c.parts-m.ensures.0) c.rounded-shift.ensures in
-    let q = nearest_of f c.requires.narrow b p.0 p.1 c.rounded-shift.result pl ro in
-    let e : c.min.result ≡ min (p.1 * weight f + c.rounded-shift.result) (infinity f) =
-    c.min.ensures ∙ ap (λ (x : ℕ). min (x + c.rounded-shift.result) c.infinity.result) c.fields.ensures.value ∙ ap (λ (x : ℕ). min (p.1 * weight f + c.rounded-shift.result) x) c.infinity.ensures in
+    let ro : Rounded (significand double b) (2 ^ p.0) c.rounded_shift.result = rw (sym c.parts-m.ensures.0) c.rounded_shift.ensures in
+    let q = nearest_of f c.requires.narrow b p.0 p.1 c.rounded_shift.result pl ro in
+    let e : c.min.result ≡ min (p.1 * weight f + c.rounded_shift.result) (infinity f) =
+    c.min.ensures ∙ ap (λ (x : ℕ). min (x + c.rounded_shift.result) c.infinity.result) c.fields.ensures.value ∙ ap (λ (x : ℕ). min (p.1 * weight f + c.rounded_shift.result) x) c.infinity.ensures in
     rw e q

@@ -10,10 +10,10 @@ use Rattle.settings.proofs.file.Settings.every_key_taken.Goals as goal
 pub loop-key-preserved : goal.loop-key-preserved
 loop-key-preserved c =
     let ns = c.args.self.now.lengths.now in let bs = c.args.self.now.keys.now in let i = c.loop-key.key in
-    let here = piece_here ns bs c.loop-key.rest.now i c.loop-key-test.true c.loop-key.invariant.0 _ c.split-up-to.ensures.front in (
-      left_more ns bs c.loop-key.rest.now i c.loop-key-test.true c.loop-key.invariant.0 _ c.split-up-to.ensures.back,
+    let here = piece_here ns bs c.loop-key.rest.now i c.loop-key-test.true c.loop-key.invariant.0 _ c.split_up_to.ensures.front in (
+      left_more ns bs c.loop-key.rest.now i c.loop-key-test.true c.loop-key.invariant.0 _ c.split_up_to.ensures.back,
       below_more _ _ c.loop-key.invariant.1
-          (λ k e. let q : c.split-up-to.result.0.now ≡ k = cc in subst (Taken c.args.overrides.now) q (c.is-taken.ensures.0 c.if-not-is-taken.false)),
+          (λ k e. let q : c.split_up_to.result.0.now ≡ k = cc in subst (Taken c.args.overrides.now) q (c.is_taken.ensures.0 c.if-not-is_taken.false)),
     )
 
 pub returns-then-not-is-taken : goal.returns-then-not-is-taken

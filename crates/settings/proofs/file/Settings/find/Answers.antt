@@ -12,8 +12,8 @@ use Rattle.settings.proofs.file.Settings.find.Goals as goal
 pub loop-i-preserved : goal.loop-i-preserved
 loop-i-preserved c =
     let ns = c.args.self.now.lengths.now in let bs = c.args.self.now.keys.now in let i = c.loop-i.i in
-    let here = piece_here ns bs c.loop-i.rest.now i c.loop-i-test.true c.loop-i.invariant.0 _ c.split-up-to.ensures.front in (
-      left_more ns bs c.loop-i.rest.now i c.loop-i-test.true c.loop-i.invariant.0 _ c.split-up-to.ensures.back,
+    let here = piece_here ns bs c.loop-i.rest.now i c.loop-i-test.true c.loop-i.invariant.0 _ c.split_up_to.ensures.front in (
+      left_more ns bs c.loop-i.rest.now i c.loop-i-test.true c.loop-i.invariant.0 _ c.split_up_to.ensures.back,
       below_more _ _ c.loop-i.invariant.1
           (not_here (Takes c.args.who) (pieces ns bs) i _ here (not_from_Decides _ c.takes.ensures c.if-takes.false)),
     )
@@ -21,12 +21,12 @@ loop-i-preserved c =
 pub returns-then-takes : goal.returns-then-takes
 returns-then-takes c =
     let ns = c.args.self.now.lengths.now in let bs = c.args.self.now.keys.now in let i = c.loop-i.i in
-    let here = piece_here ns bs c.loop-i.rest.now i c.loop-i-test.true c.loop-i.invariant.0 _ c.split-up-to.ensures.front in
+    let here = piece_here ns bs c.loop-i.rest.now i c.loop-i-test.true c.loop-i.invariant.0 _ c.split_up_to.ensures.front in
     let took = c.takes.ensures.0 c.if-takes.true in
     record {
-      first = ((c.split-up-to.result.0.now, here, took), c.loop-i.invariant.1);
+      first = ((c.split_up_to.result.0.now, here, took), c.loop-i.invariant.1);
       only = λ d. (
-        (c.split-up-to.result.0.now, here, took),
+        (c.split_up_to.result.0.now, here, took),
         λ j h. same_place (pieces ns bs) j i _ d (h.1 ∙ ap Some (takes_same c.args.who _ _ h.2 took)) here,
       );
     }

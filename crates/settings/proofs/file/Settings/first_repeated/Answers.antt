@@ -9,12 +9,12 @@ use Rattle.settings.proofs.file.Settings.first_repeated.Goals as goal
 pub loop-i-preserved : goal.loop-i-preserved
 loop-i-preserved c =
     let ns = c.args.self.now.lengths.now in let bs = c.args.self.now.keys.now in let i = c.loop-i.i in
-    let here = piece_here ns bs c.loop-i.rest.now i c.loop-i-test.true c.loop-i.invariant.0 _ c.split-up-to.ensures.front in
-    let q = ap (λ x. pieces x bs) c.split-at.ensures.front ∙ pieces_take ns bs i in (
-      left_more ns bs c.loop-i.rest.now i c.loop-i-test.true c.loop-i.invariant.0 _ c.split-up-to.ensures.back,
+    let here = piece_here ns bs c.loop-i.rest.now i c.loop-i-test.true c.loop-i.invariant.0 _ c.split_up_to.ensures.front in
+    let q = ap (λ x. pieces x bs) c.split_at.ensures.front ∙ pieces_take ns bs i in (
+      left_more ns bs c.loop-i.rest.now i c.loop-i-test.true c.loop-i.invariant.0 _ c.split_up_to.ensures.back,
       below_more _ _ c.loop-i.invariant.1
           (not_here (λ k. Among k (take i (pieces ns bs))) (pieces ns bs) i _ here
-          (λ a. not_from_Decides _ c.is-among.ensures c.if-is-among.false (subst (Among _) (sym q) a))),
+          (λ a. not_from_Decides _ c.is_among.ensures c.if-is-among.false (subst (Among _) (sym q) a))),
     )
 
 pub returns-then-is-among : goal.returns-then-is-among

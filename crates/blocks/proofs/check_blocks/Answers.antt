@@ -15,7 +15,7 @@ returns-then-not-take c = λ os.
     stopped (nodes c.args.records.now os) c.loop-i.i _ _ (stack c.loop-i.nest) (omega arith)
     (node_at os c.args.records.now c.loop-i.i _ (slice_get-get_or c.args.records.now c.loop-i.i _ c.loop-i-test.true))
     (c.loop-i.invariant.1 os)
-    (ap (λ r. step 64 r (stack c.loop-i.nest)) (sym c.role-of.ensures) ∙ c.if-not-take.ensures)
+    (ap (λ r. step 64 r (stack c.loop-i.nest)) (sym c.role_of.ensures) ∙ c.if-not-take.ensures)
     (omega arith)
 
 pub loop-i-preserved : goal.loop-i-preserved
@@ -25,7 +25,7 @@ loop-i-preserved c =
       λ os. goes_on (nodes c.args.records.now os) c.loop-i.i _ (stack c.loop-i.nest) (stack c.take.new.self)
           (node_at os c.args.records.now c.loop-i.i _ (slice_get-get_or c.args.records.now c.loop-i.i _ c.loop-i-test.true))
           (c.loop-i.invariant.1 os)
-          (ap (λ r. step 64 r (stack c.loop-i.nest)) (sym c.role-of.ensures) ∙ k.1),
+          (ap (λ r. step 64 r (stack c.loop-i.nest)) (sym c.role_of.ensures) ∙ k.1),
     )
 
 pub returns-then-done : goal.returns-then-done

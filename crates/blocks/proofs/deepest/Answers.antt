@@ -8,12 +8,12 @@ use Rattle.blocks.proofs.deepest.Goals as goal
 
 pub loop-i-preserved : goal.loop-i-preserved
 loop-i-preserved c = (
-  omega (arith, opens_one c.role-of-role.result),
-  omega (arith, closes_one c.role-of-role.result),
+  omega (arith, opens_one c.role_of-role.result),
+  omega (arith, closes_one c.role_of-role.result),
   λ os.
-      counts_more (nodes c.args.records.now os) c.loop-i.i c.loop-i.opened c.loop-i.closed c.loop-i.deepest _ c.role-of-role.result _ _ _
+      counts_more (nodes c.args.records.now os) c.loop-i.i c.loop-i.opened c.loop-i.closed c.loop-i.deepest _ c.role_of-role.result _ _ _
       (node_at os c.args.records.now c.loop-i.i _ (slice_get-get_or c.args.records.now c.loop-i.i _ c.loop-i-test.true))
-      (sym c.role-of-role.ensures) (omega arith) (omega arith) (omega arith) (c.loop-i.invariant.2 os),
+      (sym c.role_of-role.ensures) (omega arith) (omega arith) (omega arith) (c.loop-i.invariant.2 os),
 )
 
 pub returns : goal.returns

@@ -8,7 +8,7 @@ loop-i-init c = walked_start _ _ _ _ c.requires.fresh
 pub loop-i-preserved : goal.loop-i-preserved
 loop-i-preserved c =
     walked_more c.args.demand c.args.entries.now c.args.operands.now c.loop-i.i _ (slice_get-get_or c.args.entries.now c.loop-i.i _ c.loop-i-test.true)
-    c.end-of-to.result c.end-of-to.ensures c.loop-i.reach c.look-here.new.reach c.loop-i.found c.look-here.result c.loop-i.invariant c.look-here.ensures
+    c.end_of-to.result c.end_of-to.ensures c.loop-i.reach c.look-here.new.reach c.loop-i.found c.look-here.result c.loop-i.invariant c.look-here.ensures
     c.lesser-found.result c.lesser-found.ensures
 
 pub returns : goal.returns

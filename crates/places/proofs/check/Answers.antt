@@ -9,7 +9,7 @@ loop-number-init g c = λ s i l. absurd (omega arith)
 pub loop-number-preserved : goal.loop-number-preserved
 loop-number-preserved g c =
     clear_more _ _ c.loop-number.invariant
-    (in_table (g.F.Faults.at c.args.faults.now) (sym (c.numbered-table.ensures c.loop-number-test.true)) None c.in-default.ensures)
+    (in_table (g.F.Faults.at c.args.faults.now) (sym (c.numbered-table.ensures c.loop-number-test.true)) None c.in_default.ensures)
 
 pub returns-in-Some : goal.returns-in-Some
 returns-in-Some g c =

@@ -19,10 +19,10 @@ returns-in-Err c =
 pub returns-in-Err-check : goal.returns-in-Err-check
 returns-in-Err-check c =
     let b = locals c.args.b in
-    let whole = local_whole b c.in-default.ensures in
+    let whole = local_whole b c.in_default.ensures in
     record {
       first =
-          first_range (local_shape b) (local_range b) (Fault (nodes b.records b.record_operands)) (λ _. ⊥) c.in-Err-check.place c.in-default.ensures
+          first_range (local_shape b) (local_range b) (Fault (nodes b.records b.record_operands)) (λ _. ⊥) c.in-Err-check.place c.in_default.ensures
           (subst (λ t. First (local_range t) c.in-Err-check.place) whole c.in-Err-check.ensures);
       block = tt;
     }
@@ -30,22 +30,22 @@ returns-in-Err-check c =
 pub returns-in-Some : goal.returns-in-Some
 returns-in-Some c =
     let b = locals c.args.b in
-    let whole = local_whole b c.in-default.ensures in
+    let whole = local_whole b c.in_default.ensures in
     record {
       first =
-          first_block (local_shape b) (local_range b) (Fault (nodes b.records b.record_operands)) (λ _. ⊥) c.in-Some.record c.in-default.ensures
-          (subst (λ t. Clean (local_range t)) whole c.in-default-check.ensures) (c.in-Some.ensures b.record_operands).first;
+          first_block (local_shape b) (local_range b) (Fault (nodes b.records b.record_operands)) (λ _. ⊥) c.in-Some.record c.in_default.ensures
+          (subst (λ t. Clean (local_range t)) whole c.in_default-check.ensures) (c.in-Some.ensures b.record_operands).first;
       block = tt;
     }
 
 pub returns-in-None : goal.returns-in-None
 returns-in-None c =
     let b = locals c.args.b in
-    let whole = local_whole b c.in-default.ensures in
+    let whole = local_whole b c.in_default.ensures in
     let blocked = c.in-None.ensures b.record_operands in
     record {
       first =
-          none_applies (local_shape b) (local_range b) (Fault (nodes b.records b.record_operands)) (λ _. ⊥) c.in-default.ensures
-          (subst (λ t. Clean (local_range t)) whole c.in-default-check.ensures) blocked.first (λ k h. h);
+          none_applies (local_shape b) (local_range b) (Fault (nodes b.records b.record_operands)) (λ _. ⊥) c.in_default.ensures
+          (subst (λ t. Clean (local_range t)) whole c.in_default-check.ensures) blocked.first (λ k h. h);
       block = blocked.accepts refl;
     }

@@ -14,20 +14,20 @@ returns-in-Err c =
 pub returns-in-Err-check : goal.returns-in-Err-check
 returns-in-Err-check c =
     let m = globals c.args.m in
-    let whole = global_whole m c.in-default.ensures in
-    first_range (global_shape m) (global_range m) (λ _. ⊥) (Nameless m.overrides) c.in-Err-check.place c.in-default.ensures
+    let whole = global_whole m c.in_default.ensures in
+    first_range (global_shape m) (global_range m) (λ _. ⊥) (Nameless m.overrides) c.in-Err-check.place c.in_default.ensures
     (subst (λ t. First (global_range t) c.in-Err-check.place) whole c.in-Err-check.ensures)
 
 pub returns-in-Some : goal.returns-in-Some
 returns-in-Some c =
     let m = globals c.args.m in
-    let whole = global_whole m c.in-default.ensures in
-    first_name (global_shape m) (global_range m) (λ _. ⊥) (Nameless m.overrides) c.in-Some.number c.in-default.ensures
-    (subst (λ t. Clean (global_range t)) whole c.in-default-check.ensures) (λ k h. h) c.in-Some.ensures
+    let whole = global_whole m c.in_default.ensures in
+    first_name (global_shape m) (global_range m) (λ _. ⊥) (Nameless m.overrides) c.in-Some.number c.in_default.ensures
+    (subst (λ t. Clean (global_range t)) whole c.in_default-check.ensures) (λ k h. h) c.in-Some.ensures
 
 pub returns-in-None : goal.returns-in-None
 returns-in-None c =
     let m = globals c.args.m in
-    let whole = global_whole m c.in-default.ensures in
-    none_applies (global_shape m) (global_range m) (λ _. ⊥) (Nameless m.overrides) c.in-default.ensures
-    (subst (λ t. Clean (global_range t)) whole c.in-default-check.ensures) (λ k h. h) c.in-None.ensures
+    let whole = global_whole m c.in_default.ensures in
+    none_applies (global_shape m) (global_range m) (λ _. ⊥) (Nameless m.overrides) c.in_default.ensures
+    (subst (λ t. Clean (global_range t)) whole c.in_default-check.ensures) (λ k h. h) c.in-None.ensures

@@ -2,8 +2,8 @@ use Rattle.std.proofs.Common.{◌≡◌, ◌-◌, length, take, ap, ◌∙◌, a
 use Rattle.listing.proofs.Quoted.{ends_some, ends_quote, before_end}
 use Rattle.listing.proofs.keys.before_quote.Goals as goal
 
-pub returns-then-is-empty : goal.returns-then-is-empty
-returns-then-is-empty c = λ front e. let long = ends_some c.args.text.now front e in search (rules, long)
+pub returns-then-is_empty : goal.returns-then-is_empty
+returns-then-is_empty c = λ front e. let long = ends_some c.args.text.now front e in search (rules, long)
 
 pub returns-then-text-end-ne34 : goal.returns-then-text-end-ne34
 returns-then-text-end-ne34 c = λ front e. let last = ends_quote c.args.text.now front e in search (rules, last)

@@ -11,15 +11,15 @@ returns c =
     (string_bytes c.push-2.new.self)
     (string_bytes c.push-3.new.self)
     (string_bytes c.push-4.new.self)
-    c.hex-char.result
-    c.hex-char-2.result
+    c.hex_char.result
+    c.hex_char-2.result
     (b / 16)
     (b % 16)
-    c.in-ok-push.ensures.bytes
-    c.in-ok-push-2.ensures.bytes
-    c.in-ok-push-3.ensures.bytes
-    c.in-ok-push-4.ensures.bytes
-    c.hex-char.ensures
-    c.hex-char-2.ensures
+    c.in_ok-push.ensures.bytes
+    c.in_ok-push-2.ensures.bytes
+    c.in_ok-push-3.ensures.bytes
+    c.in_ok-push-4.ensures.bytes
+    c.hex_char.ensures
+    c.hex_char-2.ensures
     (omega arith)
     (omega arith)

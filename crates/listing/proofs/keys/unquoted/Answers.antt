@@ -3,20 +3,20 @@ use Rattle.listing.specs.Quotes.{inner}
 use Rattle.listing.proofs.Quoted.{next, none_left, joined_more}
 use Rattle.listing.proofs.keys.unquoted.Goals as goal
 
-pub returns-in-err-byte : goal.returns-in-err-byte
-returns-in-err-byte c = λ key small e.
+pub returns-in_err-byte : goal.returns-in_err-byte
+returns-in_err-byte c = λ key small e.
     let some : 0 < length c.loop-rest.rest.now = search rules in
     let so_far = c.loop-rest.invariant key small e in
     let step = next c.loop-rest.rest.now so_far.0 some so_far.1 so_far.2 in
-    elim (c.in-err-byte.ensures.back step.0 (inner step.1) step.3 step.4) [ ]
+    elim (c.in_err-byte.ensures.back step.0 (inner step.1) step.3 step.4) [ ]
 
 pub loop-rest-preserved : goal.loop-rest-preserved
 loop-rest-preserved c = λ key small e.
     let some : 0 < length c.loop-rest.rest.now = search rules in
     let so_far = c.loop-rest.invariant key small e in
     let step = next c.loop-rest.rest.now so_far.0 some so_far.1 so_far.2 in
-    let got = c.in-ok-byte.ensures.back step.0 (inner step.1) step.3 step.4 in
-    (step.1, step.5, got.1, joined_more key (vec_items c.push.new.self) (vec_items c.loop-rest.key) so_far.0 step.1 step.0 c.in-ok-byte.byte so_far.3 step.2 got.0 c.in-ok-push.ensures.items)
+    let got = c.in_ok-byte.ensures.back step.0 (inner step.1) step.3 step.4 in
+    (step.1, step.5, got.1, joined_more key (vec_items c.push.new.self) (vec_items c.loop-rest.key) so_far.0 step.1 step.0 c.in_ok-byte.byte so_far.3 step.2 got.0 c.in_ok-push.ensures.items)
 
 pub returns : goal.returns
 returns c = λ key small e.

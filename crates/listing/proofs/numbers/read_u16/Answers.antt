@@ -3,8 +3,8 @@ use Rattle.listing.proofs.Plain.{ill_is_none, read}
 use Rattle.listing.specs.Decimals.{Ill}
 use Rattle.listing.proofs.numbers.read_u16.Goals as goal
 
-pub returns-then-not-is-begun-well : goal.returns-then-not-is-begun-well
-returns-then-not-is-begun-well c = search (rules, ill_is_none)
+pub returns-then-not-is_begun_well : goal.returns-then-not-is_begun_well
+returns-then-not-is_begun_well c = search (rules, ill_is_none)
 
 pub returns : goal.returns
 returns c =

@@ -17,9 +17,9 @@ left : (g : Given) (who : Identifier) (scalar : Scalar) (init : Option ℕ) (r :
 left g who scalar (Some i) r e n h = subst (λ (o : Outcome). Resolved g who scalar (Some i) o) (sym e) (n, refl, h)
 left g who scalar None r e n h = subst (λ (o : Outcome). Resolved g who scalar None o) (sym e) (n, refl, h)
 
-pub returns-in-default-value : goal.returns-in-default-value
-returns-in-default-value c =
+pub returns-in_default-value : goal.returns-in_default-value
+returns-in_default-value c =
     let first = c.in-Some.ensures.first in
-    left (given c.args.settings.now) c.args.who c.args.scalar c.args.init _ c.without-value-in-default-value.ensures
-    (Some c.in-Some.key, first, sym c.value.ensures ∙ c.in-default-value.is)
+    left (given c.args.settings.now) c.args.who c.args.scalar c.args.init _ c.without_value-in_default-value.ensures
+    (Some c.in-Some.key, first, sym c.value.ensures ∙ c.in_default-value.is)
     (λ h. nothing c.args.who first.0.0 h first.0.2)

@@ -9,5 +9,5 @@ as_many ss = length-map ss (λ s. s.key.now)
 
 pub returns-in-Ok-write : goal.returns-in-Ok-write
 returns-in-Ok-write c =
-    let ss = c.as-slice-2.result.now in
-    (given_by ss, c.in-Ok-write.ensures.encodes, c.in-Ok-write.ensures.distinct, as_many ss ∙ c.as-slice-2.ensures.len ∙ sym c.len.ensures)
+    let ss = c.as_slice-2.result.now in
+    (given_by ss, c.in-Ok-write.ensures.encodes, c.in-Ok-write.ensures.distinct, as_many ss ∙ c.as_slice-2.ensures.len ∙ sym c.len.ensures)

@@ -19,7 +19,7 @@ returns-then-whole-low c =
     let t = c.trunc-whole.result in
     let e = c.trunc-whole.ensures in
     let f : T (fits binary64 x) = subst T (sym c.good.0.1) tt in
-    let n : Floats.float_is_finite x ≡ true = sym c.is-finite.ensures.value ∙ c.if-not-is-finite.false in
+    let n : Floats.float_is_finite x ≡ true = sym c.is_finite.ensures.value ∙ c.if-not-is_finite.false in
     let low = c.args.low in
     let high = c.args.high in
     let shown = outside x f n low high c.requires.0 c.requires.1 in
@@ -34,12 +34,12 @@ returns c =
     let t = c.trunc-whole.result in
     let e = c.trunc-whole.ensures in
     let f : T (fits binary64 x) = subst T (sym c.good.0.1) tt in
-    let n : Floats.float_is_finite x ≡ true = sym c.is-finite.ensures.value ∙ c.if-not-is-finite.false in
+    let n : Floats.float_is_finite x ≡ true = sym c.is_finite.ensures.value ∙ c.if-not-is_finite.false in
     let low = c.args.low in
     let high = c.args.high in
-    let z : ℤ = c.saturating-f64-to-i64.result in
+    let z : ℤ = c.saturating_f64_to_i64.result in
     let back : to_z w64 (of_z w64 z) ≡ z = to_z-of_z {w = w64} (search rules) in
-    let is : z ≡ to_signed 63 (Floats.trunc binary64 x) = c.saturating-f64-to-i64.ensures ∙ ap (to_signed 63) e in
+    let is : z ≡ to_signed 63 (Floats.trunc binary64 x) = c.saturating_f64_to_i64.ensures ∙ ap (to_signed 63) e in
     let shown =
     inside x f n low high c.requires.0 c.requires.1
     (sym (under x t low e c.ranges.low) ∙ c.if-whole-low.false) (sym (over x t high e c.ranges.high) ∙ c.if-whole-high.false) (to_z w64 (of_z w64 z)) (back ∙ is) in

@@ -20,8 +20,8 @@ pub returns-then-b-gt57 : goal.returns-then-b-gt57
 returns-then-b-gt57 c = λ d v.
     let k = a_digit c.args.bytes.now c.loop-b.b-index c.loop-b.n c.loop-b-test.true c.loop-b.invariant.1 c.loop-b.invariant.2 d in omega (arith, k.1)
 
-pub returns-then-n-gt-LARGEST-NUMBER : goal.returns-then-n-gt-LARGEST-NUMBER
-returns-then-n-gt-LARGEST-NUMBER c = λ d v.
+pub returns-then-n-gt-LARGEST_NUMBER : goal.returns-then-n-gt-LARGEST_NUMBER
+returns-then-n-gt-LARGEST_NUMBER c = λ d v.
     omega (arith, read_ge c.args.bytes.now c.loop-b.b-index c.loop-b.n c.loop-b-test.true c.loop-b.invariant.1 c.loop-b.invariant.2)
 
 pub returns : goal.returns

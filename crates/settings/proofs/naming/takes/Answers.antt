@@ -11,4 +11,4 @@ returns-in-Number c =
 
 pub returns-in-Some-name : goal.returns-in-Some-name
 returns-in-Some-name c =
-    takes_by_name c.args.who c.in-Some-name.name c.args.key.now c.eq.result c.in-default.is c.in-Some-name.is (slice_eq-Decides Decides-eqb _ _ _ c.eq.ensures)
+    takes_by_name c.args.who c.in-Some-name.name c.args.key.now c.eq.result c.in_default.is c.in-Some-name.is (slice_eq-Decides Decides-eqb _ _ _ c.eq.ensures)

@@ -4,8 +4,8 @@ use Rattle.settings.specs.Written.{keys_of}
 use Rattle.settings.proofs.Emit.{lengths_more, short_fits}
 use Rattle.settings.proofs.writing.push_lengths.Goals as goal
 
-pub overflow-cast-setting : goal.overflow-cast-setting
-overflow-cast-setting c = short_fits c.args.settings.now c.loop-setting.setting-index _ c.requires c.loop-setting-test.true
+pub overflow_cast-setting : goal.overflow_cast-setting
+overflow_cast-setting c = short_fits c.args.settings.now c.loop-setting.setting-index _ c.requires c.loop-setting-test.true
 
 pub loop-setting-preserved : goal.loop-setting-preserved
 loop-setting-preserved c =

@@ -10,11 +10,11 @@ returns-then-room-eq0 c = search (rules, length-map)
 pub returns-then-room-operands : goal.returns-then-room-operands
 returns-then-room-operands c = search (rules, length-map)
 
-pub invariant-of-self : goal.invariant-of-self
-invariant-of-self c =
+pub invariant_of-self : goal.invariant_of-self
+invariant_of-self c =
     let a = c.args.self.now in
-    let es = c.push-reserved.ensures.items in
-    let os = c.extend-reserved.ensures.items in (
+    let es = c.push_reserved.ensures.items in
+    let os = c.extend_reserved.ensures.items in (
       within_pushed _ _ _ _ _ _ es os a.runs (search rules) (search rules),
       (
         total_pushed _ _ _ _ _ _ es os a.runs (search rules) (search rules) a.total,

@@ -9,7 +9,7 @@ pub returns-in-GlobalEntries : goal.returns-in-GlobalEntries
 returns-in-GlobalEntries c = in_table (global_shape (globals c.args.self.now.of)) (ap number_of c.in-GlobalEntries.is) _ c.limited.ensures
 
 pub returns-in-GlobalOperands : goal.returns-in-GlobalOperands
-returns-in-GlobalOperands c = in_table (global_shape (globals c.args.self.now.of)) (ap number_of c.in-GlobalOperands.is) _ c.least-lacking.ensures
+returns-in-GlobalOperands c = in_table (global_shape (globals c.args.self.now.of)) (ap number_of c.in-GlobalOperands.is) _ c.least_lacking.ensures
 
 pub returns-in-Constants : goal.returns-in-Constants
 returns-in-Constants c = in_table (global_shape (globals c.args.self.now.of)) (ap number_of c.in-Constants.is) _ c.over.ensures

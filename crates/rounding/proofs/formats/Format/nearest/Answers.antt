@@ -39,15 +39,15 @@ rounded_lt m s r h ro =
       ]
     ]
 
-pub returns-then-drop-gt-LONGEST-SHIFT : goal.returns-then-drop-gt-LONGEST-SHIFT
-returns-then-drop-gt-LONGEST-SHIFT c =
+pub returns-then-drop-gt-LONGEST_SHIFT : goal.returns-then-drop-gt-LONGEST_SHIFT
+returns-then-drop-gt-LONGEST_SHIFT c =
     let f = c.args.self in
     let p = c.places-drop.result in
     let pl : Places f (doublings double c.args.bits) p.0 p.1 = placed f _ c.parts-m.result.1 p.0 p.1 c.parts-m.ensures.1 c.places-drop.ensures in
-    zero_of f c.requires.narrow c.args.bits p.0 c.if-drop-gt-LONGEST-SHIFT.true (too_many f _ p.0 p.1 c.requires.narrow c.if-drop-gt-LONGEST-SHIFT.true pl)
+    zero_of f c.requires.narrow c.args.bits p.0 c.if-drop-gt-LONGEST_SHIFT.true (too_many f _ p.0 p.1 c.requires.narrow c.if-drop-gt-LONGEST_SHIFT.true pl)
 
-pub rounded-shift-requires : goal.rounded-shift-requires
-rounded-shift-requires c =
+pub rounded_shift-requires : goal.rounded_shift-requires
+rounded_shift-requires c =
     let f = c.args.self in
     let p = c.places-drop.result in (
       omega (arith, c.parts-m.ensures.0, significand_lt c.args.bits),
@@ -61,10 +61,10 @@ fields-requires c = record {
   narrow = c.requires.narrow;
 }
 
-pub overflow-add-pattern : goal.overflow-add-pattern
-overflow-add-pattern c =
+pub overflow_add-pattern : goal.overflow_add-pattern
+overflow_add-pattern c =
     let p = c.places-drop.result in
-    let r : c.rounded-shift.result ≤ 2 ^ 53 = rounded_lt c.parts-m.result.0 p.0 c.rounded-shift.result (omega (arith, c.parts-m.ensures.0, significand_lt c.args.bits)) c.rounded-shift.ensures in
+    let r : c.rounded_shift.result ≤ 2 ^ 53 = rounded_lt c.parts-m.result.0 p.0 c.rounded_shift.result (omega (arith, c.parts-m.ensures.0, significand_lt c.args.bits)) c.rounded_shift.ensures in
     omega (arith, c.fields.ensures.bound)
 
 pub returns : goal.returns

@@ -16,11 +16,11 @@ loop-key-preserved c =
           (λ k e. let q : c.split_up_to.result.0.now ≡ k = cc in subst (Taken c.args.overrides.now) q (c.is_taken.ensures.0 c.if-not-is_taken.false)),
     )
 
-pub returns-then-not-is-taken : goal.returns-then-not-is-taken
-returns-then-not-is-taken c =
+pub returns-then-not-is_taken : goal.returns-then-not-is_taken
+returns-then-not-is_taken c =
     let ns = c.args.self.now.lengths.now in let bs = c.args.self.now.keys.now in let i = c.loop-key.key in
-    let here = piece_here ns bs c.loop-key.rest.now i c.loop-key-test.true c.loop-key.invariant.0 _ c.split-up-to.ensures.front in
-    (i, refl, ((c.split-up-to.result.0.now, here, not_from_Decides _ c.is-taken.ensures c.if-not-is-taken.true), λ j l h. h.2 (c.loop-key.invariant.1 j l h.0 h.1)))
+    let here = piece_here ns bs c.loop-key.rest.now i c.loop-key-test.true c.loop-key.invariant.0 _ c.split_up_to.ensures.front in
+    (i, refl, ((c.split_up_to.result.0.now, here, not_from_Decides _ c.is_taken.ensures c.if-not-is_taken.true), λ j l h. h.2 (c.loop-key.invariant.1 j l h.0 h.1)))
 
 pub returns : goal.returns
 returns c = λ i k e.

@@ -14,15 +14,15 @@ loop-i-preserved c =
       left_more ns bs c.loop-i.rest.now i c.loop-i-test.true c.loop-i.invariant.0 _ c.split_up_to.ensures.back,
       below_more _ _ c.loop-i.invariant.1
           (not_here (λ k. Among k (take i (pieces ns bs))) (pieces ns bs) i _ here
-          (λ a. not_from_Decides _ c.is_among.ensures c.if-is-among.false (subst (Among _) (sym q) a))),
+          (λ a. not_from_Decides _ c.is_among.ensures c.if-is_among.false (subst (Among _) (sym q) a))),
     )
 
-pub returns-then-is-among : goal.returns-then-is-among
-returns-then-is-among c =
+pub returns-then-is_among : goal.returns-then-is_among
+returns-then-is_among c =
     let ns = c.args.self.now.lengths.now in let bs = c.args.self.now.keys.now in let i = c.loop-i.i in
-    let here = piece_here ns bs c.loop-i.rest.now i c.loop-i-test.true c.loop-i.invariant.0 _ c.split-up-to.ensures.front in
-    let q = ap (λ x. pieces x bs) c.split-at.ensures.front ∙ pieces_take ns bs i in
-    ((c.split-up-to.result.0.now, here, subst (Among _) q (c.is-among.ensures.0 c.if-is-among.true)), c.loop-i.invariant.1)
+    let here = piece_here ns bs c.loop-i.rest.now i c.loop-i-test.true c.loop-i.invariant.0 _ c.split_up_to.ensures.front in
+    let q = ap (λ x. pieces x bs) c.split_at.ensures.front ∙ pieces_take ns bs i in
+    ((c.split_up_to.result.0.now, here, subst (Among _) q (c.is_among.ensures.0 c.if-is_among.true)), c.loop-i.invariant.1)
 
 pub returns : goal.returns
 returns c = λ k h.

@@ -17,4 +17,4 @@ returns c =
     let e = eight_at (length vs / 8) c.args.i vs (omega arith) in
     let n = number_8 c.split_at-2.result.0.now c.split_at-2.ensures.front_len in
     let f : c.split_at-2.result.0.now ≡ take 8 (drop (8 * c.args.i) vs) = c.split_at-2.ensures.front ∙ ap (take 8) c.split_at.ensures.back in
-    ap Some (c.f64-from-bits-with-nan.ensures ∙ ap (of_bits binary64) (c.from-le-bytes-bits.ensures ∙ sym n ∙ ap number_of f)) ∙ sym (ap (option_map (of_bits binary64)) e)
+    ap Some (c.f64_from_bits_with_nan.ensures ∙ ap (of_bits binary64) (c.from_le_bytes-bits.ensures ∙ sym n ∙ ap number_of f)) ∙ sym (ap (option_map (of_bits binary64)) e)

@@ -1,7 +1,7 @@
-// The first place At fault, in tables whatever they hold.
+// The first place at fault, in tables whatever they hold.
 //
 // A place is a table and an index in it. A check goes through the tables in the order of their numbers, and in each to the
-// least index that is At fault.
+// least index that is at fault.
 #![tactic(auto)]
 
 ghost use Rattle.std.specs.Prelude.{◌≡◌, ℕ, ◌<◌, ◌⊎◌, length, take, Decides};
@@ -130,7 +130,7 @@ pub fn up_to<T>(limit: usize, items: &[T]) -> &[T]
     }
 }
 
-// The index of the first bad item, or the limit of a table that is over it. No item past the limit is looked At.
+// The index of the first bad item, or the limit of a table that is over it. No item past the limit is looked at.
 pub fn limited<T, Q: Test<T>>(limit: usize, items: &[T], test: &Q) -> Option<usize>
     ensures { Least (λ k. Over limit (length items.now) k ⊎ Holds (Q.bad test.now) items.now k) result }
 {
@@ -146,12 +146,12 @@ pub trait Faults {
     ghost at: { Self → ℕ → ℕ → Type 0 };
 
     fn least_in(&self, table: TableName) -> Option<usize>
-        ensures { Least (At self.now (number_of table)) result };
+        ensures { Least (at self.now (number_of table)) result };
 }
 
-// The first place At fault.
+// The first place at fault.
 pub fn check<F: Faults>(faults: &F) -> Result<(), Place>
-    ensures { Checked (At faults.now) result }
+    ensures { Checked (F.at faults.now) result }
 {
     for number in 0..15u8 {
         let table = TableName::numbered(number);

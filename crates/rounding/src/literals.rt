@@ -51,7 +51,8 @@ impl Literal {
             Literal::I32(x) => x.cast_unsigned() as u64,
             Literal::U16(x) | Literal::F16(x) => x as u64,
             Literal::U32(x) | Literal::F32(x) => x as u64,
-            Literal::I64(x) | Literal::AbstractInt(x) => x.cast_unsigned(),
+            Literal::I64(x) => x.cast_unsigned(),
+            Literal::AbstractInt(x) => x.cast_unsigned(),
             Literal::U64(x) | Literal::F64(x) | Literal::AbstractFloat(x) => x,
         }
     }

@@ -88,5 +88,5 @@ by_name None None r bs b e f d = let z : ◌≡◌ {A = ℕ} 0 1 = cc in absurd 
 by_name None (Some t) r bs b e f d =
     let q : t.now ≡ r.now = cc in Decides-like b (λ p. q ∙ p) (λ p. sym q ∙ p) d
 
-pub takes_by_name : (w : Identifier) (r : MutBor (List ℕ)) (bs : List ℕ) (b : Bool) → w.id ≡ None → w.name ≡ Some r → Decides b (r.now ≡ bs) → Decides b (Takes w bs)
+pub takes_by_name : (w : Identifier) (r : Bor (List ℕ)) (bs : List ℕ) (b : Bool) → w.id ≡ None → w.name ≡ Some r → Decides b (r.now ≡ bs) → Decides b (Takes w bs)
 takes_by_name w r bs b = by_name w.id w.name r bs b

@@ -17,7 +17,7 @@ of_value x b f q t e h n = subst (λ (k : ℕ). Nearest f k q) (sym (units_is x 
 
 pub nearest-pattern-requires : goal.nearest-pattern-requires
 nearest-pattern-requires c = record {
-  finite = bits_below c.args.value (subst T (sym c.good.0.1) tt) (sym c.is_finite.ensures.value ∙ c.if-not-is_finite.false);
+  finite = bits_below c.args.value (subst T (sym c.well_formed.0.1) tt) (sym c.is_finite.ensures.value ∙ c.if-not-is_finite.false);
   narrow = c.requires;
 }
 
@@ -26,7 +26,7 @@ returns-then-pattern-infinity c =
     let x = c.args.value in
     let f = c.args.format in
     let q = c.nearest-pattern.result in
-    let near = of_value x _ f q c.good.0.1 c.is_finite.ensures.value c.if-not-is_finite.false c.nearest-pattern.ensures in
+    let near = of_value x _ f q c.well_formed.0.1 c.is_finite.ensures.value c.if-not-is_finite.false c.nearest-pattern.ensures in
     record { cases = too_large x (sym c.is_finite.ensures.value ∙ c.if-not-is_finite.false) f q near (omega (arith, c.infinity.ensures)); bound = tt }
 
 pub overflow_add-result : goal.overflow_add-result
@@ -40,9 +40,9 @@ returns-then-bits-lt9223372036854775808 c =
     let f = c.args.format in
     let q = c.nearest-pattern.result in
     let n : Floats.float_is_finite x ≡ true = sym c.is_finite.ensures.value ∙ c.if-not-is_finite.false in
-    let near = of_value x _ f q c.good.0.1 c.is_finite.ensures.value c.if-not-is_finite.false c.nearest-pattern.ensures in
+    let near = of_value x _ f q c.well_formed.0.1 c.is_finite.ensures.value c.if-not-is_finite.false c.nearest-pattern.ensures in
     let l : q < infinity f = omega (arith, c.infinity.ensures) in
-    let s = sign_is x (subst T (sym c.good.0.1) tt) n ∙ lt-leb (2 ^ 63) (to_bits binary64 x) c.if-bits-lt9223372036854775808.true in
+    let s = sign_is x (subst T (sym c.well_formed.0.1) tt) n ∙ lt-leb (2 ^ 63) (to_bits binary64 x) c.if-bits-lt9223372036854775808.true in
     let e : q ≡ cond (Floats.is_sign_negative x) (sign_bit_of f) 0 + q = rw s (omega arith) in
     record { cases = rounds_to x n f q near l q e; bound = omega (arith, infinity_lt f) }
 
@@ -52,8 +52,8 @@ returns-else-bits-lt9223372036854775808 c =
     let f = c.args.format in
     let q = c.nearest-pattern.result in
     let n : Floats.float_is_finite x ≡ true = sym c.is_finite.ensures.value ∙ c.if-not-is_finite.false in
-    let near = of_value x _ f q c.good.0.1 c.is_finite.ensures.value c.if-not-is_finite.false c.nearest-pattern.ensures in
+    let near = of_value x _ f q c.well_formed.0.1 c.is_finite.ensures.value c.if-not-is_finite.false c.nearest-pattern.ensures in
     let l : q < infinity f = omega (arith, c.infinity.ensures) in
-    let s = sign_is x (subst T (sym c.good.0.1) tt) n ∙ le-leb (2 ^ 63) (to_bits binary64 x) c.if-bits-lt9223372036854775808.false in
+    let s = sign_is x (subst T (sym c.well_formed.0.1) tt) n ∙ le-leb (2 ^ 63) (to_bits binary64 x) c.if-bits-lt9223372036854775808.false in
     let e : c.sign_bit.result + q ≡ cond (Floats.is_sign_negative x) (sign_bit_of f) 0 + q = rw s (ap (λ (k : ℕ). k + q) c.sign_bit.ensures.value) in
     record { cases = rounds_to x n f q near l (c.sign_bit.result + q) e; bound = omega (arith, infinity_lt f, c.sign_bit.ensures.value) }

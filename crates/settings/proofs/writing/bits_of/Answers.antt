@@ -6,5 +6,5 @@ use Rattle.settings.proofs.writing.bits_of.Goals as goal
 pub returns : goal.returns
 returns c = record {
   bits = c.f64_to_bits_with_nan.ensures;
-  back = of_bits-to_bits binary64 c.args.value (passes (fits binary64 c.args.value) c.good.0.1);
+  back = of_bits-to_bits binary64 c.args.value (passes (fits binary64 c.args.value) c.well_formed.0.1);
 }

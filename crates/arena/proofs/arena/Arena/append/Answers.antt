@@ -14,16 +14,13 @@ pub invariant_of-self : goal.invariant_of-self
 invariant_of-self c =
     let a = c.args.self.now in
     let es = c.push_reserved.ensures.items in
-    let os = c.extend_reserved.ensures.items in (
-      within_pushed _ _ _ _ _ _ es os a.runs (search rules) (search rules),
-      (
-        total_pushed _ _ _ _ _ _ es os a.runs (search rules) (search rules) a.total,
-        (
-          tiled_pushed _ _ _ _ _ _ es os a.tiled (search rules) (search rules),
-          search rules,
-        ),
-      ),
-    )
+    let os = c.extend_reserved.ensures.items in
+    record {
+      runs = within_pushed _ _ _ _ _ _ es os a.runs (search rules) (search rules);
+      total = total_pushed _ _ _ _ _ _ es os a.runs (search rules) (search rules) a.total;
+      tiled = tiled_pushed _ _ _ _ _ _ es os a.tiled (search rules) (search rules);
+      small = search rules;
+    }
 
 pub returns : goal.returns
 returns c =

@@ -23,5 +23,5 @@ returns c =
     let keys : length c.split_at-3.result.0.now ≡ sum c.split_at-2.result.0.now = c.split_at-3.ensures.front_len ∙ c.total-bytes.ensures.is in
     accepted c.args.file.now c.split_at.result.0.now c.split_at.result.1.now c.split_at-2.result.0.now
     c.split_at-2.result.1.now c.split_at-3.result.0.now c.split_at-3.result.1.now
-    (All-from_get_or (λ b. b < 256) c.args.file.now 0 (λ i l. (c.type_inv.file i).fits)) c.split_at.ensures.by_index.0 c.split_at.ensures.front-len (omega arith)
-    c.split_at-2.ensures.by_index.0 c.split_at-2.ensures.front-len c.split_at-3.ensures.by_index.0 keys (omega arith)
+    (All-from_get_or (λ b. b < 256) c.args.file.now 0 (λ i l. (c.type_inv.file i).fits)) c.split_at.ensures.by_index.0 c.split_at.ensures.front_len (omega arith)
+    c.split_at-2.ensures.by_index.0 c.split_at-2.ensures.front_len c.split_at-3.ensures.by_index.0 keys (omega arith)

@@ -3,7 +3,7 @@
 // and its first lines say how it was made and how a line reads.
 #![tactic(auto)]
 
-use anyhow::anyhow;
+use anyhow::{Context, anyhow};
 use rounding::{Scalar, ScalarKind, map_value_to_literal};
 use std::num::f64_from_bits_with_nan;
 use std::{fmt, io};
@@ -112,12 +112,12 @@ impl Tally {
             return Ok(());
         }
         let mut words = line.split_whitespace();
-        let first = words.next().ok_or(MALFORMED)?;
-        let bits = hexadecimal(first, 16).ok_or(MALFORMED)?;
+        let first = words.next().context(MALFORMED)?;
+        let bits = hexadecimal(first, 16).context(MALFORMED)?;
         let mut type_number = 0u32;
         for word in words {
-            let (name, scalar) = column(type_number).ok_or(MALFORMED)?;
-            let expected = stored(word, type_number, scalar).ok_or(MALFORMED)?;
+            let (name, scalar) = column(type_number).context(MALFORMED)?;
+            let expected = stored(word, type_number, scalar).context(MALFORMED)?;
             let given = convert(bits, scalar);
             self.conversions = self.conversions.saturating_add(1);
             if given != expected {
@@ -126,7 +126,7 @@ impl Tally {
             type_number = type_number.saturating_add(1);
         }
         if type_number != COLUMNS {
-            return Err(MALFORMED.into());
+            return Err(anyhow!("{MALFORMED}"));
         }
         self.doubles = self.doubles.saturating_add(1);
         Ok(())

@@ -7,14 +7,14 @@ mod files;
 mod words;
 
 use commands::run;
-use failures::Failure;
+use std::process::ExitCode;
 
-fn main(rt: HostRuntime) -> Result<(), Failure> {
+fn main(rt: HostRuntime) -> ExitCode {
     match run(&rt) {
-        Ok(()) => Ok(()),
+        Ok(()) => ExitCode::SUCCESS,
         Err(failure) => {
             let _ = eprintln!(rt; "tebulgai: {failure}");
-            Err(failure)
+            ExitCode::FAILURE
         }
     }
 }

@@ -1,11 +1,10 @@
 -- Where the records break, told by the stack.
-use Rattle.std.proofs.Common.{◌≡◌, ℕ, zero, suc, ◌+◌, ◌<◌, ◌≤◌, ◌⊎◌, List, [], ◌∷◌, ◌++◌, length, get_or, take, drop, Some, None, Option, sym, refl, ap, ◌∙◌, subst, inl, inr, ⊎_elim, arith}
+use Rattle.std.proofs.Common.{◌≡◌, ℕ, zero, suc, ◌+◌, ◌<◌, ◌≤◌, List, [], ◌∷◌, ◌++◌, length, take, drop, Some, None, Option, sym, refl, ap, ◌∙◌, subst, inl, inr, ⊎_elim, arith}
 use Rattle.std.specs.List.{slice_get}
 use Rattle.std.proofs.lemmas.List.{take_all}
 use Rattle.arena.specs.Nodes.{Node}
-use Rattle.blocks.specs.declared.Role.{Role}
-use Rattle.blocks.specs.declared.Role.TheVariants.{Opening, Closing, Doing}
-use Rattle.blocks.specs.Blocks.{role_given_to, OneBlock, Viable, opened, closed, Breaks, Fault, Blocked}
+use Rattle.blocks.specs.declared.Role.TheVariants.{Opening}
+use Rattle.blocks.specs.Blocks.{role_given_to, OneBlock, Viable, opened, closed, Fault, Blocked}
 use Rattle.blocks.specs.Stack.{step, stepped, run}
 use Rattle.blocks.proofs.Parts.{nothing, split, front, place_below, one_more}
 use Rattle.blocks.proofs.Trees.{run_append, is_one_block, runs_through}

@@ -1,5 +1,5 @@
 -- A list up to one of its items, and the nodes of a list of entries.
-use Rattle.std.proofs.Common.{◌≡◌, ℕ, zero, suc, ◌+◌, ◌<◌, List, [], ◌∷◌, ◌++◌, length, take, drop, Some, None, Option, refl, ap, add-one, arith}
+use Rattle.std.proofs.Common.{◌≡◌, ℕ, zero, suc, ◌+◌, ◌<◌, List, [], ◌∷◌, ◌++◌, length, take, drop, Some, None, Option, ap, add-one, arith}
 use Rattle.std.specs.List.{slice_get}
 use Rattle.arena.specs.declared.entry.Entry.{Entry}
 use Rattle.arena.specs.Nodes.{node, nodes}

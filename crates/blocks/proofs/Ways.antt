@@ -1,15 +1,13 @@
 -- What a record does to the stack, and where the records break.
-use Rattle.std.proofs.Common.{◌≡◌, ℕ, zero, suc, ◌+◌, ◌<◌, ◌≤◌, Bool, true, false, cond, ltb, ◌⊎◌, List, [], ◌∷◌, ◌++◌, length, get_or, take, drop, Some, None, Option, sym, refl, ap, ◌∙◌, subst, inl, inr, ⊎_elim, append_assoc, append-nil, arith}
-use Rattle.std.specs.List.{slice_get}
-use Rattle.std.proofs.lemmas.List.{take-append-drop, length-append}
-use Rattle.std.proofs.lemmas.Bool.{lt-ltb, ltb-true, ltb-false, cases_Bool}
+use Rattle.std.proofs.Common.{◌≡◌, ℕ, zero, suc, ◌+◌, ◌<◌, ◌≤◌, true, false, cond, ltb, ◌⊎◌, List, [], ◌∷◌, ◌++◌, length, Some, None, Option, sym, refl, ap, ◌∙◌, subst, inl, inr, ⊎_elim, append-nil, arith}
+use Rattle.std.proofs.lemmas.Bool.{ltb-true, ltb-false, cases_Bool}
 use Rattle.arena.specs.Nodes.{Node}
 use Rattle.blocks.specs.declared.Role.{Role}
 use Rattle.blocks.specs.declared.Role.TheVariants.{Opening, Closing, Doing}
-use Rattle.blocks.specs.Blocks.{role_given_to, OneBlock, Viable, opens, closes, opened, closed, Breaks, Fault, Blocked}
-use Rattle.blocks.specs.Stack.{step, stepped, run}
+use Rattle.blocks.specs.Blocks.{role_given_to, Viable, opens, closes, opened, closed}
+use Rattle.blocks.specs.Stack.{step, run}
 use Rattle.blocks.proofs.Parts.{nothing}
-use Rattle.blocks.proofs.Trees.{opens_up, fails, run_append, run_none, is_one_block, runs_through}
+use Rattle.blocks.proofs.Trees.{opens_up, fails, run_append, is_one_block}
 
 -- an Open that is taken: the block was due, and there was room
 pub taken : (limit p : ℕ) (s t : List ℕ) → step limit Opening (suc p ∷ s) ≡ Some t → (length s < limit) × (Some t ≡ Some (0 ∷ p ∷ s))

@@ -1,8 +1,8 @@
 -- Small bodies: what is woven, and what is in sight.
 use Rattle.std.specs.Prelude.{◌≡◌, ℕ, List, [], ◌∷◌}
 use Rattle.arena.specs.Nodes.{Node}
-use Rattle.blocks.specs.Blocks.{Block, Stmts, Stmt, Blocks, block, end, also, stmt, none, more, Shaped}
-use Rattle.blocks.specs.Weave.{Item, emitted, other, weave}
+use Rattle.blocks.specs.Blocks.{Block, Stmts, Stmt, block, end, also, stmt, none, more, Shaped}
+use Rattle.blocks.specs.Weave.{emitted, other, weave}
 use Rattle.blocks.specs.Sight.{uses, results, InSight}
 
 -- an entry or a record of a kind, with its words and operands

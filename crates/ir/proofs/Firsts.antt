@@ -1,10 +1,10 @@
 -- The first refusal that applies, from the first place of each sort.
-use Rattle.std.proofs.Common.{◌≡◌, ℕ, ◌<◌, ◌⊎◌, List, [], ◌∷◌, Some, None, Ok, Err, Result, refl, inl, inr, ⊎_elim, arith, lit<}
+use Rattle.std.proofs.Common.{◌≡◌, ℕ, ◌<◌, ◌⊎◌, [], ◌∷◌, Some, None, Err, inl, inr, arith, lit<}
 use Rattle.places.specs.declared.Place.{Place}
-use Rattle.places.specs.First.{Least, At, Before, Clean, First}
+use Rattle.places.specs.First.{Least, Before, Clean, First}
 use Rattle.refusals.specs.declared.Refusal.{Refusal}
 use Rattle.refusals.specs.declared.Refusal.TheVariants.{MalformedSettings, RepeatedKey, Misshapen, OutOfRange, NotOneBlock, NotFound, Nameless, MissingValue, SrcNeedsToBeFinite, DstRangeTooSmall, UnsupportedScalar, InitNotMapped, ConstantEvaluatorError, RuntimeExpr, NegativeWorkgroupSize, NegativeMeshOutputMax, Full}
-use Rattle.refusals.specs.Codes.{code_of, place_of, Less, Earlier, FirstOf, Faulty}
+use Rattle.refusals.specs.Codes.{place_of, Less, Earlier, FirstOf, Faulty}
 
 -- values of one number in order
 less_one : (x y : ℕ) → Less (x ∷ []) (y ∷ []) → x < y

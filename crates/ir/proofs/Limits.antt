@@ -1,9 +1,8 @@
 -- Tables of a right shape are within their limits, so nothing of their operands is cut off.
-use Rattle.std.proofs.Common.{◌≡◌, ℕ, ◌<◌, ◌≤◌, ◌⊎◌, List, [], ◌∷◌, ◌++◌, length, take, refl, ap, subst, inl, inr, ⊎_elim, arith}
+use Rattle.std.proofs.Common.{◌≡◌, ℕ, ◌<◌, List, length, take, refl, ap, subst, inl, ⊎_elim}
 use Rattle.std.proofs.lemmas.Bool.{cases_lt}
 use Rattle.std.proofs.lemmas.List.{take_all}
 use Rattle.places.specs.First.{Clean, Over}
-use Rattle.places.specs.declared.Place.{Place}
 use Rattle.places.specs.declared.TableName.TheVariants.{GlobalOperands, BodyOperands, RecordOperands}
 use Rattle.ir.specs.Tables.{Global, Local, global_shape, local_shape}
 use Rattle.ir.specs.Views.{global_below, local_below}

@@ -1,5 +1,5 @@
 -- What the checks of a module's and of a body's tables answer.
-use Rattle.std.specs.Prelude.{ℕ, Result}
+use Rattle.std.specs.Prelude.{Result}
 use Rattle.refusals.specs.declared.Refusal.{Refusal}
 use Rattle.refusals.specs.Codes.{FirstOf, Faulty}
 use Rattle.arena.specs.Nodes.{nodes}

@@ -8,7 +8,6 @@ use Rattle.operands.specs.Faults.{slots_of}
 use Rattle.arena.specs.declared.entry.Entry.{Entry}
 use Rattle.arena.specs.declared.entry.Run.{Run}
 use Rattle.ir.specs.declared.tables.Constant.{Constant}
-use Rattle.ir.specs.declared.tables.Override.{Override}
 
 -- a run ends past n
 abbrev pub outside : ℕ → Run → Bool

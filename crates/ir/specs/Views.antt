@@ -1,5 +1,5 @@
 -- The tables as the checks go through them.
-use Rattle.std.specs.Prelude.{ℕ, List, length, take}
+use Rattle.std.specs.Prelude.{length, take}
 use Rattle.ir.specs.declared.source.Globals.{Globals}
 use Rattle.ir.specs.declared.body.Locals.{Locals}
 use Rattle.ir.specs.Tables.{Global, Local}

@@ -1,5 +1,5 @@
 -- A word is a number's decimal digits just where `parse` reads it and it begins well.
-use Rattle.std.proofs.Common.{◌≡◌, ℕ, zero, suc, ◌^◌, ◌<◌, ◌≤◌, true, false, ◌⊎◌, List, [], ◌∷◌, length, get_or, is_ok, Ok, Err, decimal, Result, sym, ap, ◌∙◌, subst, inl, inr, true≢false, eq-or-lt_of_le, arith, rules, MatchOption}
+use Rattle.std.proofs.Common.{◌≡◌, ℕ, zero, suc, ◌^◌, ◌<◌, ◌≤◌, ◌⊎◌, List, [], ◌∷◌, length, get_or, is_ok, Ok, Err, decimal, Result, sym, ap, ◌∙◌, inl, inr, true≢false, eq-or-lt_of_le, arith, MatchOption}
 use Rattle.std.proofs.lemmas.Fmt.{decimal_digit, first_decimal, parse-decimal, decimal-digits_value}
 use Rattle.std.proofs.lemmas.Str.Parse.{IsNumeralModel, numerals_by_value, tells_digits, parse_plain}
 use Rattle.std.specs.Str.Parse.{AllDigits, digits_value, ParsesUnsigned}

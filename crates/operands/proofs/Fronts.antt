@@ -1,5 +1,5 @@
 -- The demand of one entry more.
-use Rattle.std.proofs.Common.{◌≡◌, ℕ, ◌+◌, ◌<◌, ◌≤◌, min, Bool, true, false, cond, ◌&&◌, eqb, leb, ◌⊎◌, List, length, get_or, Some, None, Option, sym, refl, ap, ◌∙◌, subst, inl, inr, ⊎_elim, arith}
+use Rattle.std.proofs.Common.{◌≡◌, ℕ, ◌+◌, ◌<◌, ◌≤◌, min, Bool, true, false, cond, ◌&&◌, eqb, leb, ◌⊎◌, List, length, get_or, Some, None, Option, refl, subst, inl, inr, ⊎_elim, arith}
 use Rattle.std.specs.List.{slice_get}
 use Rattle.std.proofs.lemmas.Option.{slice_get-get_or}
 use Rattle.std.proofs.lemmas.Bool.{cases_lt, leb-true, le-leb}
@@ -8,7 +8,7 @@ use Rattle.places.proofs.Kit.{SomeBelow, least_iff, within}
 use Rattle.arena.specs.declared.entry.Entry.{Entry}
 use Rattle.operands.specs.declared.Demand.{Demand}
 use Rattle.operands.specs.declared.Demand.TheVariants.{Present, BelowOwn, Below}
-use Rattle.operands.specs.Faults.{absent, out_of_range_of}
+use Rattle.operands.specs.Faults.{absent}
 use Rattle.operands.specs.Walk.{asked, failing, Covers, InFront, Front, Reached, Fails, Looked}
 
 out_before : (b : Bool) (i j h : ℕ) → i ≤ j → cond b false (leb j h) ≡ true → cond b false (leb i h) ≡ true

@@ -1,6 +1,5 @@
 -- From what was looked at to what is wrong.
-use Rattle.std.proofs.Common.{◌≡◌, ℕ, ◌+◌, ◌-◌, ◌<◌, ◌≤◌, Bool, true, false, cond, ◌&&◌, eqb, ltb, leb, ◌⊎◌, List, length, take, Some, None, Option, sym, refl, ap, ◌∙◌, subst, inl, inr, ⊎_elim, arith}
-use Rattle.std.specs.List.{slice_get}
+use Rattle.std.proofs.Common.{◌≡◌, ℕ, ◌+◌, ◌-◌, ◌<◌, ◌≤◌, true, false, cond, eqb, ltb, leb, ◌⊎◌, List, length, take, Some, None, Option, sym, ap, ◌∙◌, subst, inl, inr, ⊎_elim, arith}
 use Rattle.std.proofs.lemmas.Bool.{cases_lt, cases_Bool, leb-true, eqb-true, lt-ltb, le-ltb, and_parts, and_from, cond-true, cond-false, false≢true}
 use Rattle.kinds.specs.declared.Slots.{Slots}
 use Rattle.kinds.specs.Kinds.{admitted, front_length_of, slot_at, needed_slot}
@@ -8,11 +7,10 @@ use Rattle.places.specs.First.{Least, Holds, lesser_of}
 use Rattle.places.proofs.Kit.{least_iff, least_or, cut_in, cut_out, Cut, in_take, within}
 use Rattle.arena.specs.declared.entry.Entry.{Entry}
 use Rattle.operands.specs.declared.Sort.{Sort}
-use Rattle.operands.specs.declared.Demand.{Demand}
 use Rattle.operands.specs.declared.Demand.TheVariants.{Present, BelowOwn, Below}
 use Rattle.operands.specs.Faults.{absent, slots_of, needed_at, needed, lacking, out_of_range_of}
 use Rattle.operands.specs.Operands.{Fault, InRun, Wrong, Lacking, NotBelow, Beyond}
-use Rattle.operands.specs.Walk.{fronted, asked, failing, Covers, InFront, Front, InSlots, InRow, InTail, Tail}
+use Rattle.operands.specs.Walk.{fronted, InFront, Front, InRow, InTail, Tail}
 
 -- what holds of an entry of the list, if it follows from another
 pub holds_map : {A : Type 0} (P Q : ℕ → A → Type 0) → ((i : ℕ) (x : A) → P i x → Q i x) → (xs : List A) (i : ℕ) → Holds P xs i → Holds Q xs i

@@ -1,6 +1,6 @@
 -- Looking at each place once. An operand that is right for an entry is right for every later one, so a place that an earlier run
 -- has covered is passed over, and a place's reach says up to where all is covered.
-use Rattle.std.specs.Prelude.{◌≡◌, ℕ, ◌+◌, ◌<◌, ◌≤◌, Bool, true, false, cond, ◌&&◌, ◌⊎◌, List, Some, None, Option, ◌==◌, slice_index}
+use Rattle.std.specs.Prelude.{◌≡◌, ℕ, ◌+◌, ◌<◌, ◌≤◌, Bool, true, cond, ◌⊎◌, List, Some, None, Option, ◌==◌, slice_index}
 use Rattle.kinds.specs.declared.Slots.{Slots}
 use Rattle.kinds.specs.Kinds.{admitted, front_length_of, slot_at, needed_slot}
 use Rattle.places.specs.First.{Holds}

@@ -1,5 +1,5 @@
 -- Least and first places put together.
-use Rattle.std.proofs.Common.{◌≡◌, ℕ, zero, suc, ◌+◌, ◌<◌, ◌≤◌, min, ◌⊎◌, List, [], ◌∷◌, length, get_or, take, Some, None, Ok, Err, Option, Result, sym, refl, ap, ◌∙◌, subst, inl, inr, ⊎_elim, arith, lit<}
+use Rattle.std.proofs.Common.{◌≡◌, ℕ, zero, suc, ◌+◌, ◌<◌, ◌≤◌, min, ◌⊎◌, List, [], ◌∷◌, length, get_or, take, Some, None, Option, sym, refl, ap, ◌∙◌, subst, inl, inr, ⊎_elim, arith, lit<}
 use Rattle.std.proofs.lemmas.List.{length-take}
 use Rattle.std.specs.List.{slice_get}
 use Rattle.std.proofs.lemmas.Bool.{cases_lt}
@@ -7,7 +7,7 @@ use Rattle.std.proofs.lemmas.Option.{slice_get-get_or, slice_get_past}
 use Rattle.places.specs.declared.Place.{Place}
 use Rattle.places.specs.declared.TableName.{TableName}
 use Rattle.places.specs.declared.TableName.TheVariants.{GlobalEntries, GlobalOperands, Constants, Overrides, VariableInits, BodyEntries, BodyOperands, Records, RecordOperands, LocalInits, NamedHandles, Sizes, HandleTable, OverridesConstants, Kinds}
-use Rattle.places.specs.First.{Least, Holds, Over, At, Before, Clean, First, lesser_of, number_of}
+use Rattle.places.specs.First.{Least, Holds, Over, Clean, First, lesser_of, number_of}
 
 -- some item below n brings F at k
 abbrev pub SomeBelow : ℕ → (ℕ → ℕ → Type 0) → ℕ → Type 0

@@ -1,13 +1,11 @@
 -- The specs' magnitude is what the logic's `of_bits` reads. Assumes nothing.
-use Rattle.std.proofs.Common.{◌≡◌, ℕ, zero, suc, ◌+◌, ◌-◌, ◌*◌, ◌/◌, ◌%◌, ◌^◌, ◌<◌, ◌≤◌, Bool, true, false, cond, eqb, leb, ◌⊎◌, sym, refl, ap, ◌∙◌, subst, inl, inr, lt_of_lt_of_le, mul-le-mul_right, mod-eq_of_lt, mul_assoc, mul_comm, mul-pos, zero-add, mul-one, mul_right_comm, arith, pow_pos, pow-add, ne_eqb}
+use Rattle.std.proofs.Common.{◌≡◌, ℕ, zero, suc, ◌+◌, ◌-◌, ◌*◌, ◌/◌, ◌%◌, ◌^◌, ◌<◌, ◌≤◌, Bool, leb, sym, refl, ap, ◌∙◌, subst, inl, inr, mod-eq_of_lt, mul_assoc, mul-one, mul_right_comm, arith, pow-add, ne_eqb}
 use native.Mathlib.Nat.{div-eq_of_lt}
 use Rattle.std.proofs.lemmas.Nat.{div_below, le-div}
-use borrow.Author.Tests.{lt-leb}
 use lib.Ieee as Ieee
 use lib.Ieee.{Float, nan, inf, fin, up, down, of_fields, of_bits, odd, prec, hid, ones, top, binary32, binary64}
 use lib.Ieee.Exact.{HasValue, odd_sign}
-use Rattle.rounding.specs.declared.formats.Format.{Format}
-use Rattle.rounding.specs.Formats.{weight, infinity, step, significand, doublings, magnitude}
+use Rattle.rounding.specs.Formats.{infinity, step, significand, doublings, magnitude}
 use Rattle.rounding.specs.Agrees.{format_of, Agrees}
 use Rattle.rounding.proofs.Patterns.{either_way, weight_pos, significand_low, significand_high, magnitude_is}
 

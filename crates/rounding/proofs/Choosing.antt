@@ -1,9 +1,9 @@
 -- The nearest pattern is one of the two that a number lies between. Assumes nothing.
-use Rattle.std.proofs.Common.{◌≡◌, ℕ, zero, suc, ◌+◌, ◌-◌, ◌*◌, ◌/◌, ◌%◌, ◌^◌, ◌<◌, ◌≤◌, ◌≢◌, ◌⊎◌, sym, refl, ap, ◌∙◌, subst, inl, inr, mul-le-mul_right, mod-lt, mul_assoc, mul_comm, add-mul, mul-lt-mul_of_pos_right, one-mul, div-add-mod', arith, pow_pos, pow-add}
+use Rattle.std.proofs.Common.{◌≡◌, ℕ, suc, ◌-◌, ◌%◌, ◌<◌, ◌≤◌, sym, inl, inr, arith}
 use Rattle.rounding.specs.declared.formats.Format.{Format}
-use Rattle.rounding.specs.Formats.{weight, infinity, step, significand, doublings, magnitude}
+use Rattle.rounding.specs.Formats.{infinity, significand, magnitude}
 use Rattle.rounding.specs.Nearest.{Nearest, distance, NearestIsOne}
-use Rattle.rounding.proofs.Patterns.{either_way, Stands, magnitude_of, magnitude_lt, magnitude_le, magnitude_next, even_pattern, below_two}
+use Rattle.rounding.proofs.Patterns.{either_way, magnitude_lt, magnitude_le, even_pattern}
 
 -- n is as near as can be to q, which stands for g, where the patterns below stand for at most lo and those above for at least hi
 module _ (f : Format) (n a : ℕ) (below : a < infinity f) (low : magnitude f a ≤ n) (high : n ≤ magnitude f (suc a)) where

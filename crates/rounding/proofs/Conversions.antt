@@ -1,5 +1,5 @@
 -- What the conversion's steps show of a double. Assumes nothing.
-use Rattle.std.proofs.Common.{◌≡◌, ℕ, zero, suc, ◌+◌, ◌*◌, ◌/◌, ◌^◌, ◌<◌, ◌≤◌, Bool, true, false, cond, not, ◌&&◌, ◌||◌, T, eqb, ltb, ◌⊎◌, ℤ, pos, negsuc, ◌≤ℤ◌, Ok, Err, sym, refl, ap, ◌∙◌, subst, inl, inr, true≢false, zero-lt-suc, mul-lt-mul_of_pos_right, mul-pos, zero-mul, mul-one, arith, le-ltb, lt-ltb, ne_eqb}
+use Rattle.std.proofs.Common.{◌≡◌, ℕ, zero, suc, ◌+◌, ◌*◌, ◌/◌, ◌^◌, ◌<◌, ◌≤◌, Bool, true, false, cond, not, ◌&&◌, ◌||◌, T, eqb, ltb, ◌⊎◌, ℤ, pos, ◌≤ℤ◌, Ok, Err, sym, refl, ap, ◌∙◌, subst, inl, inr, true≢false, zero-lt-suc, mul-lt-mul_of_pos_right, mul-pos, zero-mul, mul-one, arith, le-ltb, lt-ltb, ne_eqb}
 use mathlib.Core.Bool.{beq}
 use lib.Signed.{le_z}
 use lib.Ieee.{Float, nan, inf, fin, binary64, up, down, lt, eq, ne, is_nan, fits, of_int, of_bits, to_signed}
@@ -9,7 +9,7 @@ use borrow.Author.Differences.{ints}
 use Rattle.std.specs.Float as Floats
 use Rattle.rounding.specs.declared.formats.Format.{Format}
 use Rattle.rounding.specs.declared.conversion.ConversionError.TheVariants.{DstRangeTooSmall}
-use Rattle.rounding.specs.Formats.{weight, infinity, sign_bit_of}
+use Rattle.rounding.specs.Formats.{infinity, sign_bit_of}
 use Rattle.rounding.specs.Shifts.{Held}
 use Rattle.rounding.specs.Nearest.{Nearest}
 use Rattle.rounding.specs.Doubles.{units, whole, truth}

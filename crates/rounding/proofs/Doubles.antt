@@ -1,5 +1,5 @@
 -- What a double's parts say, for a format with fewer digits. Assumes nothing.
-use Rattle.std.proofs.Common.{◌≡◌, ℕ, zero, suc, ◌+◌, ◌-◌, ◌*◌, ◌/◌, ◌%◌, ◌^◌, ◌<◌, ◌≤◌, min, ◌⊎◌, sym, refl, ap, ◌∙◌, subst, inl, inr, le_trans, lt_of_lt_of_le, add-zero, le_of_lt, mul-le-mul_right, mul_assoc, mul_comm, mul-lt-mul_of_pos_right, pow-suc, le-div_iff_mul-le, mul_right_comm, arith, lit<, lit≤, pow_pos, pow_mono, pow-add, shr_lt}
+use Rattle.std.proofs.Common.{◌≡◌, ℕ, suc, ◌+◌, ◌-◌, ◌*◌, ◌/◌, ◌^◌, ◌<◌, ◌≤◌, min, sym, ap, ◌∙◌, inl, inr, lt_of_lt_of_le, add-zero, le_of_lt, mul-le-mul_right, mul_comm, mul-lt-mul_of_pos_right, pow-suc, le-div_iff_mul-le, arith, lit<, pow_pos, pow_mono, pow-add, shr_lt}
 use Rattle.std.proofs.lemmas.Nat.{div_below}
 use Rattle.rounding.specs.declared.formats.Format.{Format}
 use Rattle.rounding.specs.Formats.{double, weight, infinity, step, significand, doublings, magnitude}

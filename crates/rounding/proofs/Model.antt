@@ -1,5 +1,5 @@
 -- The nearest pattern, computed, for examples. Assumes nothing.
-use Rattle.std.proofs.Common.{◌≡◌, ℕ, ◌+◌, ◌-◌, ◌*◌, ◌/◌, ◌%◌, ◌^◌, ◌<◌, ◌≤◌, min, cond, ltb, ◌⊎◌, sym, refl, ap, ◌∙◌, inl, inr, arith, le-ltb, lt-ltb}
+use Rattle.std.proofs.Common.{ℕ, ◌+◌, ◌-◌, ◌*◌, ◌/◌, ◌%◌, ◌^◌, min, cond, ltb, inl, inr, arith, le-ltb, lt-ltb}
 use Rattle.rounding.specs.declared.formats.Format.{Format}
 use Rattle.rounding.specs.Formats.{double, weight, infinity, step, significand, doublings, magnitude}
 use Rattle.rounding.specs.Nearest.{Nearest}

@@ -1,9 +1,9 @@
 -- A pattern y * weight + q with a significand q: what it stands for. The larger pattern stands for more, and a significand is even where its pattern is. Assumes nothing.
-use Rattle.std.proofs.Common.{◌≡◌, ℕ, zero, suc, ◌+◌, ◌-◌, ◌*◌, ◌/◌, ◌%◌, ◌^◌, ◌<◌, ◌≤◌, Bool, true, false, cond, not, T, ltb, ◌≢◌, ◌⊎◌, sym, refl, ap, ◌∙◌, subst, inl, inr, add-zero, add_assoc, add-suc, mul-le-mul_right, mod-lt, mod-eq_of_lt, mul_assoc, mul_comm, add-mul, add_comm, mul-lt-mul_of_pos_right, one-mul, pow-suc, div-add-mod', le-div_iff_mul-le, zero-mul, mul-one, mul-add, add-one, arith, ltb→lt, nltb→le, pow_pos, pow-add, le-ltb, lt-ltb}
+use Rattle.std.proofs.Common.{◌≡◌, ℕ, zero, suc, ◌+◌, ◌-◌, ◌*◌, ◌/◌, ◌%◌, ◌^◌, ◌<◌, ◌≤◌, Bool, true, false, not, T, ltb, ◌⊎◌, sym, refl, ap, ◌∙◌, inl, inr, add-zero, mod-lt, mul_assoc, mul_comm, add-mul, one-mul, pow-suc, div-add-mod', le-div_iff_mul-le, zero-mul, mul-one, add-one, arith, ltb→lt, nltb→le, pow_pos, le-ltb, lt-ltb}
 use native.Mathlib.Nat.{div-eq_of_lt}
 use lib.Arith.{digits_div, digits_mod}
 use Rattle.rounding.specs.declared.formats.Format.{Format}
-use Rattle.rounding.specs.Formats.{weight, infinity, step, significand, doublings, magnitude}
+use Rattle.rounding.specs.Formats.{weight, step, significand, doublings, magnitude}
 
 pub either_way : (a b : ℕ) → (a < b) ⊎ (b ≤ a)
 either_way a b = go (ltb a b) (ltb→lt a b) (nltb→le a b)

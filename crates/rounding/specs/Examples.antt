@@ -1,6 +1,5 @@
 -- Worked examples: what a value becomes, and nothing else. A value is written as the double nearest to a fraction.
 use Rattle.std.specs.Prelude.{◌≡◌, ℕ, ◌+◌, ◌^◌, true, false, negsuc, Ok, Err}
-use Rattle.std.proofs.Math.Bool as Truth
 use Rattle.std.specs.Float.Ieee as Ieee
 use Rattle.std.specs.Float.{nan, inf, binary64}
 use Rattle.rounding.specs.declared.scalars.Scalar.{Scalar}

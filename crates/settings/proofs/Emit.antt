@@ -1,5 +1,5 @@
 -- A settings file, put together part by part.
-use Rattle.std.proofs.Common.{◌≡◌, ℕ, zero, suc, ◌+◌, ◌*◌, ◌/◌, ◌%◌, ◌^◌, ◌<◌, ◌≤◌, ◌⊎◌, List, [], ◌∷◌, ◌++◌, map, length, get_or, take, Some, None, Ok, Err, Result, sym, refl, ap, ◌∙◌, subst, ⊎_elim, arith, w8, Fits}
+use Rattle.std.proofs.Common.{◌≡◌, ℕ, zero, suc, ◌+◌, ◌/◌, ◌%◌, ◌^◌, ◌<◌, ◌≤◌, List, [], ◌∷◌, ◌++◌, map, length, get_or, take, Some, None, Ok, Err, sym, refl, ap, ◌∙◌, subst, ⊎_elim, arith, w8, Fits}
 use lib.Ieee.{to_bits, binary64}
 use Rattle.std.specs.List.{flat_map, AllByRecursion as All}
 use Rattle.std.proofs.lemmas.List.{append_assoc, map_more, map_push, flat_map_more, length-map}
@@ -8,7 +8,7 @@ use Rattle.std.proofs.lemmas.Option.{slice_get-get_or}
 use Rattle.std.proofs.lemmas.Bool.{cases_lt}
 use Rattle.settings.specs.First.{Least}
 use Rattle.settings.specs.Layout.{Given, Valid, Encodes, Repeats, Distinct, bytes_of, encode}
-use Rattle.settings.specs.Reading.{given, Read}
+use Rattle.settings.specs.Reading.{given}
 use Rattle.settings.specs.Written.{keys_of, literal_bits_of, given_by, TooLong, Restored, ValuesBack, ReadsBack}
 use Rattle.settings.specs.declared.writing.Setting.{Setting}
 use Rattle.settings.proofs.Places.{nth_map}

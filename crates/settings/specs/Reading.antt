@@ -7,7 +7,7 @@ use Rattle.std.specs.Option.{option_map}
 use Rattle.settings.specs.First.{Least, Holds}
 use Rattle.settings.specs.Layout.{Given, Valid, encode, Encodes, Repeats, Distinct, pieces, eights}
 use Rattle.settings.specs.Codes.{code_of}
-use Rattle.settings.specs.Keys.{Takes, Taken}
+use Rattle.settings.specs.Keys.{Taken}
 use Rattle.settings.specs.declared.error.SettingsError.{SettingsError}
 use Rattle.settings.specs.declared.naming.Identifier.{Identifier}
 use Rattle.settings.specs.declared.file.Settings.{Settings}

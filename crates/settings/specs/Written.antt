@@ -4,7 +4,7 @@ use Rattle.std.specs.Float.{binary64}
 use Rattle.std.specs.List.{slice_get}
 use Rattle.std.specs.Option.{option_map}
 use Rattle.settings.specs.First.{Least, Holds}
-use Rattle.settings.specs.Layout.{Given, Encodes, Repeats, Distinct}
+use Rattle.settings.specs.Layout.{Given, Repeats, Distinct}
 use Rattle.settings.specs.Reading.{given, value_at, Read}
 use Rattle.settings.specs.declared.error.SettingsError.{SettingsError}
 use Rattle.settings.specs.declared.file.Settings.{Settings}

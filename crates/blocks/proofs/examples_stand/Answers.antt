@@ -1,4 +1,4 @@
-use Rattle.std.proofs.Common.{◌≡◌, ℕ, ◌⊎◌, List, [], ◌∷◌, refl, inl, inr, arith, lit<}
+use Rattle.std.proofs.Common.{◌≡◌, ℕ, [], ◌∷◌, refl, inl, inr, arith, lit<}
 use Rattle.blocks.specs.Blocks.{blocks_after_of}
 use Rattle.blocks.specs.Sight.{uses, results, Sees}
 use Rattle.blocks.specs.Examples.{entries}

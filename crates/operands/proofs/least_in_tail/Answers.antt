@@ -1,4 +1,4 @@
-use Rattle.std.proofs.Common.{◌+◌, sym, ◌∙◌, subst}
+use Rattle.std.proofs.Common.{◌+◌, sym, subst}
 use Rattle.places.specs.First.{Least}
 use Rattle.operands.specs.Walk.{InSlots}
 use Rattle.operands.proofs.Tails.{in_row}

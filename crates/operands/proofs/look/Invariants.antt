@@ -1,4 +1,4 @@
-use Rattle.std.proofs.Common.{◌-◌, ◌≤◌, length}
+use Rattle.std.proofs.Common.{◌-◌}
 use Rattle.operands.proofs.Looking.{Looking}
 use Rattle.operands.proofs.look.Given as goal
 

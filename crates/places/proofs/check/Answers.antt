@@ -1,5 +1,4 @@
-use Rattle.std.proofs.Common.{◌≡◌, None, sym, subst, arith}
-use Rattle.places.specs.First.{Least, number_of}
+use Rattle.std.proofs.Common.{None, sym, subst, arith}
 use Rattle.places.proofs.Kit.{Clear, clear_more, clear_clean, first_here, in_table}
 use Rattle.places.proofs.check.Goals as goal
 

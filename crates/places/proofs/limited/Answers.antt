@@ -1,4 +1,4 @@
-use Rattle.std.proofs.Common.{length, take, Some, None, subst}
+use Rattle.std.proofs.Common.{Some, None, subst}
 use Rattle.places.specs.First.{Least, Holds}
 use Rattle.places.proofs.Kit.{cut_items, limited_some, limited_none}
 use Rattle.places.proofs.limited.Goals as goal

@@ -1,4 +1,4 @@
-use Rattle.std.proofs.Common.{◌≡◌, codes, ◌∙◌, inl, inr, rules}
+use Rattle.std.proofs.Common.{◌≡◌, codes, ◌∙◌, rules}
 use Rattle.listing.proofs.Named.{one_width, bool_none}
 use Rattle.listing.proofs.scalars.read_bool.Goals as goal
 

@@ -1,5 +1,5 @@
 -- The pattern of the nearest value, with the double's sign. Assumes nothing.
-use Rattle.std.proofs.Common.{◌≡◌, ℕ, ◌+◌, ◌*◌, ◌^◌, ◌<◌, ◌≤◌, Bool, true, cond, T, leb, sym, refl, ap, ◌∙◌, subst, arith, le-leb}
+use Rattle.std.proofs.Common.{◌≡◌, ℕ, ◌+◌, ◌^◌, ◌<◌, Bool, true, cond, T, sym, ap, ◌∙◌, subst, arith, le-leb}
 use lib.Ieee.{Float, binary64, fits, to_bits}
 use borrow.Author.Tests.{lt-leb}
 use Rattle.std.specs.Float as Floats

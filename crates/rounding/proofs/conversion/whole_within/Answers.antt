@@ -1,6 +1,6 @@
 -- The comparisons with the ends decide what the rule decides. Assumes nothing.
-use Rattle.std.proofs.Common.{◌≡◌, Bool, true, T, ℤ, sym, ap, ◌∙◌, subst, inl, inr, to_z-of_z, w64, SFits, to_z, of_z, rules}
-use lib.Ieee.{Float, binary64, fits, to_bits, lt, of_int, to_signed}
+use Rattle.std.proofs.Common.{◌≡◌, true, T, ℤ, sym, ap, ◌∙◌, subst, inl, inr, to_z-of_z, w64, SFits, to_z, of_z, rules}
+use lib.Ieee.{Float, binary64, fits, lt, of_int, to_signed}
 use Rattle.std.specs.Float as Floats
 use Rattle.rounding.proofs.Conversions.{outside, inside}
 use Rattle.rounding.proofs.conversion.whole_within.Goals as goal

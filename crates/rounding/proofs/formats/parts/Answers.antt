@@ -1,5 +1,4 @@
 use Rattle.std.proofs.Common.{sym, refl, arith}
-use native.Mathlib.Nat.{div-eq_of_lt}
 use Rattle.rounding.specs.Formats.{double, doublings}
 use Rattle.rounding.proofs.Patterns.{significand_low, significand_high}
 use Rattle.rounding.proofs.formats.parts.Goals as goal

@@ -1,4 +1,4 @@
-use Rattle.std.proofs.Common.{◌≤◌, arith, rules}
+use Rattle.std.proofs.Common.{◌≤◌, rules}
 use Rattle.std.proofs.lemmas.Slice.Eq.{slice_eq-Decides}
 use Rattle.settings.proofs.Numeral.{takes_by_id, takes_by_name}
 use Rattle.settings.proofs.naming.takes.Goals as goal

@@ -1,5 +1,5 @@
 -- A few fields keep to 35 bits. Assumes nothing.
-use Rattle.std.proofs.Common.{ℕ, ◌+◌, ◌-◌, ◌≤◌, lt_of_lt_of_le, arith, pow_mono}
+use Rattle.std.proofs.Common.{◌+◌, ◌-◌, ◌≤◌, lt_of_lt_of_le, arith, pow_mono}
 use Rattle.std.proofs.lemmas.Nat.{shl_whole, shl_below}
 use Rattle.rounding.proofs.formats.Format.fields.Goals as goal
 

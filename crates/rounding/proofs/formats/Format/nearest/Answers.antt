@@ -1,9 +1,8 @@
 -- `nearest` meets its contract. Assumes nothing.
-use Rattle.std.proofs.Common.{◌≡◌, ℕ, suc, ◌+◌, ◌-◌, ◌*◌, ◌/◌, ◌%◌, ◌^◌, ◌<◌, ◌≤◌, min, ◌⊎◌, sym, refl, ap, ◌∙◌, subst, inl, inr, arith}
+use Rattle.std.proofs.Common.{◌≡◌, ℕ, ◌+◌, ◌*◌, ◌%◌, ◌^◌, ◌<◌, ◌≤◌, min, sym, ap, ◌∙◌, inl, inr, arith}
 use lib.Pow.{shr_le}
 use Rattle.rounding.specs.declared.formats.Format.{Format}
-use Rattle.rounding.specs.Formats.{double, weight, infinity, step, significand, doublings, magnitude}
-use Rattle.rounding.specs.Nearest.{Nearest}
+use Rattle.rounding.specs.Formats.{double, weight, infinity, step, significand, doublings}
 use Rattle.rounding.specs.Shifts.{Narrow, Rounded, Places}
 use Rattle.rounding.proofs.Patterns.{either_way}
 use Rattle.rounding.proofs.Doubles.{significand_lt, doublings_lt, nearest_of, zero_of}

@@ -1,6 +1,5 @@
-use Rattle.std.proofs.Common.{◌≡◌, ℕ, ◌<◌, List, ◌∷◌, length, get_or, drop, sum, sym, ap, ◌∙◌, subst, arith}
-use Rattle.std.specs.List.{AllByRecursion as All}
-use Rattle.std.proofs.ByRecursion.{All-from_get_or, All-drop, All-take}
+use Rattle.std.proofs.Common.{◌≡◌, ◌<◌, length, sum, ap, ◌∙◌, arith}
+use Rattle.std.proofs.ByRecursion.{All-from_get_or}
 use Rattle.settings.proofs.Format.{in_limits, fits, accepted, two}
 use Rattle.settings.proofs.file.Settings.cut.Goals as goal
 

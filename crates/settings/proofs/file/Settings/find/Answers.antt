@@ -1,4 +1,4 @@
-use Rattle.std.proofs.Common.{◌≡◌, ℕ, Some, sym, ap, ◌∙◌, arith, below_more}
+use Rattle.std.proofs.Common.{ℕ, Some, ap, ◌∙◌, arith, below_more}
 use Rattle.std.proofs.lemmas.Bool.Decides.{not_from_Decides}
 use Rattle.settings.specs.First.{Holds}
 use Rattle.settings.specs.Layout.{pieces}

@@ -1,4 +1,4 @@
-use Rattle.std.proofs.Common.{ℕ, ◌<◌, ◌≤◌}
+use Rattle.std.proofs.Common.{ℕ, ◌<◌}
 use Rattle.settings.specs.First.{Holds}
 use Rattle.settings.specs.Layout.{pieces}
 use Rattle.settings.specs.Keys.{Takes}

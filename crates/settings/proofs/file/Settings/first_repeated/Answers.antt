@@ -1,4 +1,4 @@
-use Rattle.std.proofs.Common.{◌≡◌, take, sym, ap, ◌∙◌, subst, arith, below_more}
+use Rattle.std.proofs.Common.{take, sym, ap, ◌∙◌, subst, arith, below_more}
 use Rattle.std.proofs.lemmas.Bool.Decides.{not_from_Decides}
 use Rattle.settings.specs.Layout.{pieces, Among}
 use Rattle.settings.proofs.Places.{within, not_here}

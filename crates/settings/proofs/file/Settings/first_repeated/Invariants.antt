@@ -1,4 +1,4 @@
-use Rattle.std.proofs.Common.{ℕ, ◌<◌, ◌≤◌}
+use Rattle.std.proofs.Common.{ℕ, ◌<◌}
 use Rattle.settings.specs.Layout.{pieces, Repeats}
 use Rattle.settings.proofs.Walk.{Left}
 use Rattle.settings.proofs.file.Settings.first_repeated.Given as goal

@@ -1,4 +1,4 @@
-use Rattle.std.proofs.Common.{◌≡◌, Some, sym, ap, ◌∙◌, subst, arith}
+use Rattle.std.proofs.Common.{◌≡◌, Some, subst, arith}
 use Rattle.std.specs.List.{slice_get}
 use Rattle.settings.specs.Layout.{pieces}
 use Rattle.settings.proofs.Format.{length_pieces}

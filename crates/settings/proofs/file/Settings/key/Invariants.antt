@@ -1,4 +1,4 @@
-use Rattle.std.proofs.Common.{ℕ, ◌<◌, ◌≤◌}
+use Rattle.std.proofs.Common.{◌≤◌}
 use Rattle.settings.proofs.Walk.{Left}
 use Rattle.settings.proofs.file.Settings.key.Given as goal
 

@@ -26,7 +26,7 @@ fn values_come_in_the_order_of_handles(rt: HostRuntime) {
     assert!(rt; images.insert(1, 9) == Ok(()));
     assert!(rt; images.insert(2, 8) == Err(InsertError::Full));
     assert!(rt; images.get(0) == Some(7) && images.get(1) == Some(9));
-    assert!(rt; images.get(2) == None && images.as_slice() == [7, 9]);
+    assert!(rt; images.get(2) == None && images.as_slice() == [7, 9].as_slice());
 }
 
 #[test]
@@ -63,7 +63,7 @@ fn ranges_end_before_the_absent_handle(rt: HostRuntime) {
         assert!(rt; handles.insert(next, handle) == Ok(()));
         next = next.wrapping_add(1);
     }
-    assert!(rt; handles.as_slice() == [3, 4, 5]);
+    assert!(rt; handles.as_slice() == [3, 4, 5].as_slice());
     assert!(rt; Range::new_from_bounds(3, 2).first_and_last() == None);
     assert!(rt;
         Range::new_from_bounds(ABSENT - 1, ABSENT).first_and_last()
@@ -81,7 +81,7 @@ fn an_arena_refuses_what_does_not_fit(rt: HostRuntime) -> Result<(), Fail> {
     assert!(rt; arena.append(10, [5, 0, 0, 0], &[0, ABSENT], span) == Ok(1));
     assert!(rt; arena.append(10, [0; 4], &[0, 0], span) == Err(FullTable::Entries));
     assert!(rt; arena.kind(1) == Some(10) && arena.kind(2) == None);
-    assert!(rt; arena.words(0) == Some([1, 2, 3, 4]) && arena.operand_list() == [0, ABSENT]);
+    assert!(rt; arena.words(0) == Some([1, 2, 3, 4]) && arena.operand_list() == [0, ABSENT].as_slice());
     assert!(rt;
         arena.operand(1, 1) == Some(ABSENT)
             && arena.operand(1, 2) == None

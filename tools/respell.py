@@ -354,28 +354,30 @@ NAMES = """
 """
 
 PAIRS = dict(line.split() for line in NAMES.strip().splitlines())
+# A name that two crates have for two things.
+OWN = {"settings": {"bitsOf": "value_bits_of"}}
 WORD = re.compile(r"(?<![\w'′-])[^\W\d](?:[\w'′]|-(?=[\w]))*")
 CALL = re.compile(r"(?<![\w'′-])c\.$")
 
 
-def turned(text):
+def turned(text, own):
     """The text with each name of PAIRS respelled; what follows `c.` names a step of the code, and stays."""
     out, at = [], 0
     for m in WORD.finditer(text):
-        new = PAIRS.get(m.group())
+        new = own.get(m.group(), PAIRS.get(m.group()))
         if new and not CALL.search(text[: m.start()][-8:]):
             out += [text[at : m.start()], new]
             at = m.end()
     return "".join(out) + text[at:]
 
 
-def source(text):
+def source(text, own):
     """A .rt file: only the ghost items and the clauses hold such names, and they are the only names in camel case or with a prime there."""
     lines = []
     for line in text.split("\n"):
         code = line.strip()
         ghost = code.startswith(("ghost ", "requires", "ensures")) or "{ λ" in code
-        lines.append(turned(line) if ghost else line)
+        lines.append(turned(line, own) if ghost else line)
     return "\n".join(lines)
 
 
@@ -389,7 +391,8 @@ def main(top):
             path = os.path.join(folder, name)
             with open(path, encoding="utf-8") as f:
                 old = f.read()
-            new = turned(old) if name.endswith(".antt") else source(old)
+            own = OWN.get(os.path.relpath(path, top).split(os.sep)[1], {})
+            new = turned(old, own) if name.endswith(".antt") else source(old, own)
             if new != old:
                 with open(path, "w", encoding="utf-8") as f:
                     f.write(new)

@@ -1,7 +1,7 @@
 -- A settings file, put together part by part.
 use Rattle.std.proofs.Common.{◌≡◌, ℕ, zero, suc, ◌+◌, ◌/◌, ◌%◌, ◌^◌, ◌<◌, ◌≤◌, List, [], ◌∷◌, ◌++◌, map, length, get_or, take, Some, None, Ok, Err, sym, refl, ap, ◌∙◌, subst, ⊎_elim, arith, w8, Fits}
 use lib.Ieee.{to_bits, binary64}
-use Rattle.std.specs.List.{flat_map, AllByRecursion as All}
+use Rattle.std.specs.List.{flat_map, AllByRecursion}
 use Rattle.std.proofs.lemmas.List.{append_assoc, map_more, map_push, flat_map_more, length-map}
 use Rattle.std.proofs.ByRecursion.{All-push}
 use Rattle.std.proofs.lemmas.Option.{slice_get-get_or}
@@ -9,7 +9,7 @@ use Rattle.std.proofs.lemmas.Bool.{cases_lt}
 use Rattle.settings.specs.First.{Least}
 use Rattle.settings.specs.Layout.{Given, Valid, Encodes, Repeats, Distinct, bytes_of, encode}
 use Rattle.settings.specs.Reading.{given}
-use Rattle.settings.specs.Written.{keys_of, literal_bits_of, given_by, TooLong, Restored, ValuesBack, ReadsBack}
+use Rattle.settings.specs.Written.{keys_of, value_bits_of, given_by, TooLong, Restored, ValuesBack, ReadsBack}
 use Rattle.settings.specs.declared.writing.Setting.{Setting}
 use Rattle.settings.proofs.Places.{nth_map}
 
@@ -46,16 +46,16 @@ module _ (ss : List Setting) (i : ℕ) (d : Setting) (l : i < length ss) (old no
       f ∙ ap (λ x. x ++ (get_or ss i d).key.now) e ∙ flat_map_more (λ k. k) old (keys_of (take i ss)) (get_or ss i d).key.now ∙ ap (λ ks. old ++ flat_map (λ k. k) ks) (sym key_more)
 
 module _ (ss : List Setting) (i : ℕ) (d : Setting) (l : i < length ss) (b : ℕ) (is : b ≡ to_bits binary64 (get_or ss i d).value) where
-  value_more : literal_bits_of (take (i + 1) ss) ≡ literal_bits_of (take i ss) ++ b ∷ []
-  value_more = map_more (λ s. to_bits binary64 s.value) ss i d l ∙ ap (λ x. literal_bits_of (take i ss) ++ x ∷ []) (sym is)
+  value_more : value_bits_of (take (i + 1) ss) ≡ value_bits_of (take i ss) ++ b ∷ []
+  value_more = map_more (λ s. to_bits binary64 s.value) ss i d l ∙ ap (λ x. value_bits_of (take i ss) ++ x ∷ []) (sym is)
 
-  pub values_more : (old now' next put : List ℕ) → now' ≡ old ++ flat_map (bytes_of 8) (literal_bits_of (take i ss)) → next ≡ now' ++ put → put ≡ eight b →
-      next ≡ old ++ flat_map (bytes_of 8) (literal_bits_of (take (i + 1) ss))
+  pub values_more : (old now' next put : List ℕ) → now' ≡ old ++ flat_map (bytes_of 8) (value_bits_of (take i ss)) → next ≡ now' ++ put → put ≡ eight b →
+      next ≡ old ++ flat_map (bytes_of 8) (value_bits_of (take (i + 1) ss))
   values_more old now' next put e f p =
-      f ∙ ap (λ x. now' ++ x) (p ∙ sym (eight_bytes b)) ∙ ap (λ x. x ++ bytes_of 8 b) e ∙ flat_map_more (bytes_of 8) old (literal_bits_of (take i ss)) b ∙ ap (λ bs. old ++ flat_map (bytes_of 8) bs) (sym value_more)
+      f ∙ ap (λ x. now' ++ x) (p ∙ sym (eight_bytes b)) ∙ ap (λ x. x ++ bytes_of 8 b) e ∙ flat_map_more (bytes_of 8) old (value_bits_of (take i ss)) b ∙ ap (λ bs. old ++ flat_map (bytes_of 8) bs) (sym value_more)
 
-  pub doubles_more : All (λ x. x < 2 ^ 64) (literal_bits_of (take i ss)) → b < 2 ^ 64 → All (λ x. x < 2 ^ 64) (literal_bits_of (take (i + 1) ss))
-  doubles_more h k = subst (All (λ x. x < 2 ^ 64)) (sym value_more) (All-push (λ x. x < 2 ^ 64) (literal_bits_of (take i ss)) b h k)
+  pub doubles_more : AllByRecursion (λ x. x < 2 ^ 64) (value_bits_of (take i ss)) → b < 2 ^ 64 → AllByRecursion (λ x. x < 2 ^ 64) (value_bits_of (take (i + 1) ss))
+  doubles_more h k = subst (AllByRecursion (λ x. x < 2 ^ 64)) (sym value_more) (All-push (λ x. x < 2 ^ 64) (value_bits_of (take i ss)) b h k)
 
 -- ---- keys that are short enough
 
@@ -67,7 +67,7 @@ short_at ss i d h l =
 pub short_fits : (ss : List Setting) (i : ℕ) (d : Setting) → Least (TooLong (keys_of ss)) None → i < length ss → Fits w8 (length (get_or ss i d).key.now)
 short_fits ss i d h l = omega (arith, short_at ss i d h l)
 
-short_all : (ks : List (List ℕ)) → Least (TooLong ks) None → All (λ k. length k < 256) ks
+short_all : (ks : List (List ℕ)) → Least (TooLong ks) None → AllByRecursion (λ k. length k < 256) ks
 short_all [] h = tt
 short_all (k ∷ ks) h =
     let one : length k < 256 = ⊎_elim (λ (m : 255 < length k). absurd (h 0 (k, refl, m))) (λ (m : length k ≤ 255). omega arith) (cases_lt 255 (length k)) in
@@ -77,15 +77,15 @@ short_all (k ∷ ks) h =
 
 pub assembled : (ss : List Setting) (start first second third whole head : List ℕ) → start ≡ [] → head ≡ (length ss % 256) ∷ (length ss / 256 % 256) ∷ [] →
     first ≡ start ++ head → second ≡ first ++ map length (keys_of ss) → third ≡ second ++ flat_map (λ k. k) (keys_of ss) →
-    whole ≡ third ++ flat_map (bytes_of 8) (literal_bits_of ss) → whole ≡ encode (given_by ss)
+    whole ≡ third ++ flat_map (bytes_of 8) (value_bits_of ss) → whole ≡ encode (given_by ss)
 assembled ss start first second third whole head a h b c d e =
     let n = length-map ss (λ s. s.key.now) in
-    let ks = map length (keys_of ss) in let js = flat_map (λ k. k) (keys_of ss) in let vs = flat_map (bytes_of 8) (literal_bits_of ss) in
+    let ks = map length (keys_of ss) in let js = flat_map (λ k. k) (keys_of ss) in let vs = flat_map (bytes_of 8) (value_bits_of ss) in
     let f : first ≡ bytes_of 2 (length (keys_of ss)) = b ∙ ap (λ x. x ++ head) a ∙ h ∙ ap (bytes_of 2) (sym n) in
     e ∙ ap (λ x. x ++ vs) (d ∙ ap (λ x. x ++ js) (c ∙ ap (λ x. x ++ ks) f))
     ∙ append_assoc (bytes_of 2 (length (keys_of ss)) ++ ks) js vs ∙ append_assoc (bytes_of 2 (length (keys_of ss))) ks (js ++ vs)
 
-pub valid_settings : (ss : List Setting) → length ss ≤ 4096 → Least (TooLong (keys_of ss)) None → All (λ x. x < 2 ^ 64) (literal_bits_of ss) → Valid (given_by ss)
+pub valid_settings : (ss : List Setting) → length ss ≤ 4096 → Least (TooLong (keys_of ss)) None → AllByRecursion (λ x. x < 2 ^ 64) (value_bits_of ss) → Valid (given_by ss)
 valid_settings ss few short doubles =
     record {
       few = omega (arith, length-map ss (λ s. s.key.now));
@@ -94,7 +94,7 @@ valid_settings ss few short doubles =
       doubles = doubles;
     }
 
-pub values_back : (ss : List Setting) → All Restored ss → ValuesBack ss
+pub values_back : (ss : List Setting) → AllByRecursion Restored ss → ValuesBack ss
 values_back [] h i = refl
 values_back (s ∷ ss) h zero = ap Some h.0
 values_back (s ∷ ss) h (suc i) = values_back ss h.1 i

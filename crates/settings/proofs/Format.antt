@@ -1,13 +1,13 @@
 -- A settings file, cut into its parts and put together again.
 use Rattle.std.proofs.Common.{◌≡◌, ℕ, zero, suc, ◌+◌, ◌*◌, ◌/◌, ◌%◌, ◌^◌, ◌<◌, ◌≤◌, List, [], ◌∷◌, ◌++◌, map, length, get_or, take, drop, replicate, Some, sum, sym, refl, ap, ◌∙◌, subst, pow-suc, mul-suc, arith}
-use Rattle.std.specs.List.{slice_get, flat_map, AllByRecursion as All}
+use Rattle.std.specs.List.{slice_get, flat_map, AllByRecursion}
 use Rattle.std.proofs.lemmas.List.{take_at, drop_at, take-append-drop, length-take-le, length-drop, length-append, length-map, length-replicate, drop-drop}
 use Rattle.std.proofs.lemmas.List.Sums.{sum_by-cons, sum_by_more, sum_by-take-le}
 use Rattle.std.proofs.ByRecursion.{All-take, All-drop, All-get_or}
 use Rattle.settings.specs.Layout.{bytes_of, number_of, Given, Valid, encode, pieces, eights, Encodes}
 
 abbrev Bytes : List ℕ → Type 0
-Bytes bs = All (λ b. b < 256) bs
+Bytes bs = AllByRecursion (λ b. b < 256) bs
 
 -- ---- numbers and their bytes
 
@@ -67,7 +67,7 @@ length_pieces [] bs = refl
 length_pieces (n ∷ ns) bs = ap suc (length_pieces ns (drop n bs))
 
 -- lengths below a limit
-short_pieces : (ns bs : List ℕ) → length bs ≡ sum ns → Bytes ns → All (λ (k : List ℕ). length k < 256) (pieces ns bs)
+short_pieces : (ns bs : List ℕ) → length bs ≡ sum ns → Bytes ns → AllByRecursion (λ (k : List ℕ). length k < 256) (pieces ns bs)
 short_pieces [] bs e h = tt
 short_pieces (n ∷ ns) bs e h =
     (omega (arith, length-take-le n bs (front n ns bs e), h.0), short_pieces ns (drop n bs) (back n ns bs e) h.1)
@@ -78,7 +78,7 @@ short_pieces (n ∷ ns) bs e h =
 abbrev pub eights_by : ℕ → List ℕ → List ℕ
 eights_by n bs = map number_of (pieces (replicate n 8) bs)
 
-eights_by_joined : (vs : List ℕ) → All (λ v. v < 2 ^ 64) vs → eights_by (length vs) (flat_map (bytes_of 8) vs) ≡ vs
+eights_by_joined : (vs : List ℕ) → AllByRecursion (λ v. v < 2 ^ 64) vs → eights_by (length vs) (flat_map (bytes_of 8) vs) ≡ vs
 eights_by_joined [] h = refl
 eights_by_joined (v ∷ vs) h =
     let t = take_at (bytes_of 8 v) (flat_map (bytes_of 8) vs) 8 refl in
@@ -98,7 +98,7 @@ joined_eights_by (suc n) bs e h =
     let rest = joined_eights_by n (drop 8 bs) r (All-drop _ 8 bs h) in
     let all = take-append-drop 8 bs in cc
 
-doubles_eights_by : (n : ℕ) (bs : List ℕ) → length bs ≡ 8 * n → Bytes bs → All (λ v. v < 2 ^ 64) (eights_by n bs)
+doubles_eights_by : (n : ℕ) (bs : List ℕ) → length bs ≡ 8 * n → Bytes bs → AllByRecursion (λ v. v < 2 ^ 64) (eights_by n bs)
 doubles_eights_by zero bs e h = tt
 doubles_eights_by (suc n) bs e h =
     let m = mul-suc 8 n in

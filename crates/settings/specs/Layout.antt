@@ -1,6 +1,6 @@
 -- A settings file: a count, so many lengths of keys, the keys, so many values.
 use Rattle.std.specs.Prelude.{◌≡◌, ℕ, zero, suc, ◌+◌, ◌*◌, ◌/◌, ◌%◌, ◌^◌, ◌<◌, ◌≤◌, List, [], ◌∷◌, ◌++◌, map, length, take, drop, replicate, Some, None}
-use Rattle.std.specs.List.{slice_get, flat_map, AllByRecursion as All}
+use Rattle.std.specs.List.{slice_get, flat_map, AllByRecursion}
 use Rattle.settings.specs.First.{Least, Holds}
 
 -- k bytes of a number, the lowest first
@@ -22,8 +22,8 @@ pub record Given : Type 0 where
 pub record Valid (g : Given) : Type 0 where
   pub few : length g.keys ≤ 4096
   pub paired : length g.values ≡ length g.keys
-  pub short : All (λ k. length k < 256) g.keys
-  pub doubles : All (λ v. v < 2 ^ 64) g.values
+  pub short : AllByRecursion (λ k. length k < 256) g.keys
+  pub doubles : AllByRecursion (λ v. v < 2 ^ 64) g.values
 
 -- the bytes of the file
 abbrev pub encode : Given → List ℕ

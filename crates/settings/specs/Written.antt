@@ -15,11 +15,11 @@ use Rattle.settings.specs.declared.writing.WriteError.TheVariants.{TooManySettin
 abbrev pub keys_of : List Setting → List (List ℕ)
 keys_of ss = map (λ s. s.key.now) ss
 
-abbrev pub literal_bits_of : List Setting → List ℕ
-literal_bits_of ss = map (λ s. to_bits binary64 s.value) ss
+abbrev pub value_bits_of : List Setting → List ℕ
+value_bits_of ss = map (λ s. to_bits binary64 s.value) ss
 
 abbrev pub given_by : List Setting → Given
-given_by ss = record { keys = keys_of ss; values = literal_bits_of ss }
+given_by ss = record { keys = keys_of ss; values = value_bits_of ss }
 
 -- the key at i has more bytes than its length has room for
 abbrev pub TooLong : List (List ℕ) → ℕ → Type 0

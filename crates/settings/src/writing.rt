@@ -1,9 +1,9 @@
 ghost use Rattle.std.specs.Prelude.{◌≡◌, ℕ, ◌^◌, ◌<◌, ◌≤◌, ◌++◌, map, length, IfOk, IfErr, Some, None, Decides, OnOk, from_bits, to_bits};
 ghost use Rattle.std.specs.Float.{binary64};
-ghost use Rattle.std.specs.List.{flat_map, AllByRecursion as All};
+ghost use Rattle.std.specs.List.{flat_map, AllByRecursion};
 ghost use Rattle.settings.specs.First.{Least};
 ghost use Rattle.settings.specs.Layout.{Among, Repeats, Distinct, Encodes, bytes_of, encode};
-ghost use Rattle.settings.specs.Written.{keys_of, literal_bits_of, given_by, TooLong, Refused, Restored, ValuesBack, ReadsBack, write_words};
+ghost use Rattle.settings.specs.Written.{keys_of, value_bits_of, given_by, TooLong, Refused, Restored, ValuesBack, ReadsBack, write_words};
 
 use crate::{LONGEST_KEY, MOST_SETTINGS};
 use std::alloc::{AllocError, Global};
@@ -106,8 +106,8 @@ fn encoded(heap: Global, settings: &[Setting<'_>]) -> Result<Vec<u8>, AllocError
     requires few { length settings.now ≤ 4096 }
     requires short { Least (TooLong (keys_of settings.now)) None }
     ensures bytes { IfOk result (λ v. v.items ≡ encode (given_by settings.now)) }
-    ensures doubles { IfOk result (λ v. All (λ b. b < 2 ^ 64) (literal_bits_of settings.now)) }
-    ensures restored { IfOk result (λ v. All Restored settings.now) }
+    ensures doubles { IfOk result (λ v. AllByRecursion (λ b. b < 2 ^ 64) (value_bits_of settings.now)) }
+    ensures restored { IfOk result (λ v. AllByRecursion Restored settings.now) }
 {
     let mut file = Vec::new(heap);
     file.extend_from_slice(&(settings.len() as u16).to_le_bytes())?;
@@ -145,9 +145,9 @@ fn bits_of(value: f64) -> u64
 }
 
 fn push_values(file: &mut Vec<u8>, settings: &[Setting<'_>]) -> Result<(), AllocError>
-    ensures bytes { OnOk result (file.new.items ≡ file.old.items ++ flat_map (bytes_of 8) (literal_bits_of settings.now)) }
-    ensures doubles { OnOk result (All (λ b. b < 2 ^ 64) (literal_bits_of settings.now)) }
-    ensures restored { OnOk result (All Restored settings.now) }
+    ensures bytes { OnOk result (file.new.items ≡ file.old.items ++ flat_map (bytes_of 8) (value_bits_of settings.now)) }
+    ensures doubles { OnOk result (AllByRecursion (λ b. b < 2 ^ 64) (value_bits_of settings.now)) }
+    ensures restored { OnOk result (AllByRecursion Restored settings.now) }
 {
     for setting in settings {
         file.extend_from_slice(&bits_of(setting.value).to_le_bytes())?;

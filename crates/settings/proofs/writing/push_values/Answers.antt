@@ -1,9 +1,9 @@
 use Rattle.std.proofs.Common.{◌^◌, ◌<◌, ◌++◌, vec_items, ap, ◌∙◌, subst}
-use Rattle.std.specs.List.{flat_map, AllByRecursion as All}
+use Rattle.std.specs.List.{flat_map, AllByRecursion}
 use Rattle.std.proofs.lemmas.List.{take_all}
 use Rattle.std.proofs.ByRecursion.{All-more}
 use Rattle.settings.specs.Layout.{bytes_of}
-use Rattle.settings.specs.Written.{literal_bits_of, Restored}
+use Rattle.settings.specs.Written.{value_bits_of, Restored}
 use Rattle.settings.proofs.Emit.{values_more, doubles_more}
 use Rattle.settings.proofs.writing.push_values.Goals as goal
 
@@ -20,7 +20,7 @@ pub returns : goal.returns
 returns c =
     let all = take_all c.loop-setting.setting-index c.args.settings.now c.loop-setting-test.false in
     record {
-      bytes = c.loop-setting.invariant.0 ∙ ap (λ ss. vec_items c.args.file.now ++ flat_map (bytes_of 8) (literal_bits_of ss)) all;
-      doubles = subst (λ ss. All (λ b. b < 2 ^ 64) (literal_bits_of ss)) all c.loop-setting.invariant.1;
-      restored = subst (All Restored) all c.loop-setting.invariant.2;
+      bytes = c.loop-setting.invariant.0 ∙ ap (λ ss. vec_items c.args.file.now ++ flat_map (bytes_of 8) (value_bits_of ss)) all;
+      doubles = subst (λ ss. AllByRecursion (λ b. b < 2 ^ 64) (value_bits_of ss)) all c.loop-setting.invariant.1;
+      restored = subst (AllByRecursion Restored) all c.loop-setting.invariant.2;
     }

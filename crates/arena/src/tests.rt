@@ -81,7 +81,9 @@ fn an_arena_refuses_what_does_not_fit(rt: HostRuntime) -> Result<(), Fail> {
     assert!(rt; arena.append(10, [5, 0, 0, 0], &[0, ABSENT], span) == Ok(1));
     assert!(rt; arena.append(10, [0; 4], &[0, 0], span) == Err(FullTable::Entries));
     assert!(rt; arena.kind(1) == Some(10) && arena.kind(2) == None);
-    assert!(rt; arena.words(0) == Some([1, 2, 3, 4]) && arena.operand_list() == [0, ABSENT].as_slice());
+    assert!(rt;
+        arena.words(0) == Some([1, 2, 3, 4]) && arena.operand_list() == [0, ABSENT].as_slice()
+    );
     assert!(rt;
         arena.operand(1, 1) == Some(ABSENT)
             && arena.operand(1, 2) == None

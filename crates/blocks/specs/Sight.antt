@@ -1,7 +1,7 @@
 -- Which handles a place in a body sees: pre-emit entries, and what was emitted or named as a result earlier in the same or an
 -- enclosing block.
 use Rattle.std.specs.Prelude.{◌≡◌, ℕ, Bool, true, false, cond, not, ◌⊎◌, List, [], ◌∷◌, ◌++◌, length, replicate, Some, None, filter, Option, ◌==◌}
-use Rattle.std.specs.List.{slice_get, ContainsAt as Has, AllByRecursion as All}
+use Rattle.std.specs.List.{slice_get, ContainsAt as Has, AllByRecursion}
 use Rattle.kinds.specs.declared.RecordKind.{RecordKind}
 use Rattle.kinds.specs.declared.Slot.{Slot}
 use Rattle.kinds.specs.declared.Slot.TheVariants.{Needed}
@@ -60,7 +60,7 @@ operands_of (Some e) = present e.operands
 -- each entry that an Emit names sees its operands, those emitted before it among them
 abbrev pub EmitSees : List Node → List ℕ → List ℕ → Type 0
 EmitSees es s [] = Unit {0}
-EmitSees es s (h ∷ hs) = All (Sees es s) (operands_of (slice_get es h)) × EmitSees es (s ++ (h ∷ [])) hs
+EmitSees es s (h ∷ hs) = AllByRecursion (Sees es s) (operands_of (slice_get es h)) × EmitSees es (s ++ (h ∷ [])) hs
 
 -- what a statement puts in sight for those after it in its block: nothing of the blocks inside it
 abbrev pub brings : Stmt → List ℕ
@@ -89,12 +89,12 @@ abbrev mutual
 
   pub InSightStmt : List Node → List ℕ → Stmt → Type 0
   InSightStmt es s (stmt n bs) =
-      cond (is_emit n) (EmitSees es s (emits n)) (cond (is_loop n) (LoopSees es s (uses n) bs) (All (Sees es s) (uses n) × BlocksSee es s bs))
+      cond (is_emit n) (EmitSees es s (emits n)) (cond (is_loop n) (LoopSees es s (uses n) bs) (AllByRecursion (Sees es s) (uses n) × BlocksSee es s bs))
 
   pub BlocksSee : List Node → List ℕ → Blocks → Type 0
   BlocksSee es s none = Unit {0}
   BlocksSee es s (more b bs) = InSight es s b × BlocksSee es s bs
 
   pub LoopSees : List Node → List ℕ → List ℕ → Blocks → Type 0
-  LoopSees es s break_if none = All (Sees es s) break_if
+  LoopSees es s break_if none = AllByRecursion (Sees es s) break_if
   LoopSees es s break_if (more b bs) = InSight es s b × LoopSees es (s ++ brought b) break_if bs

@@ -1,5 +1,5 @@
 // The check of a body.
-ghost use Rattle.std.specs.Prelude.{ℕ, List, OnOk};
+ghost use Rattle.std.specs.Prelude.{OnOk};
 ghost use Rattle.arena.specs.Nodes.{nodes};
 ghost use Rattle.blocks.specs.Blocks.{OneBlock};
 ghost use Rattle.ir.specs.Tables.{local_shape, local_range, local};

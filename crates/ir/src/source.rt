@@ -1,9 +1,8 @@
 // The check of a module's tables.
-ghost use Rattle.places.specs.First.{Checked, Clean};
+ghost use Rattle.std.specs.Prelude.{◌≡◌};
 ghost use Rattle.ir.specs.Tables.{global_shape, global_range, global, sizes_of};
 ghost use Rattle.ir.specs.Views.{globals, global_below};
 ghost use Rattle.ir.specs.Checks.{CheckedSource};
-ghost use Rattle.std.specs.Prelude.{◌≡◌};
 
 use crate::tables::{Constant, Override, Size, Sizes, Source};
 use crate::tests::{NameOutside, Names, Out, Shape, WithoutName};

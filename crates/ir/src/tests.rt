@@ -1,5 +1,5 @@
 // What is asked of one item of a table. Each test says by its `bad` what it finds.
-ghost use Rattle.std.specs.Prelude.{◌≡◌, ℕ, true};
+ghost use Rattle.std.specs.Prelude.{◌≡◌, true};
 ghost use Rattle.operands.specs.Faults.{out_of_range_of};
 ghost use Rattle.ir.specs.Faults.{outside, misshapen, name_outside, misnamed, malformed, emits_past, nameless};
 

@@ -4,7 +4,7 @@
 // operand goes by them.
 #![tactic(auto)]
 
-ghost use Rattle.std.specs.Prelude.{◌≡◌, ℕ};
+ghost use Rattle.std.specs.Prelude.{◌≡◌};
 ghost use Rattle.std.specs.List.{slice_get};
 ghost use Rattle.kinds.specs.Kinds.{expressions, records, admitted, front_length_of, slot_at, needed_slot, result_slot, blocks_of};
 

@@ -2,7 +2,7 @@
 //
 // naga's `map_value_to_literal`. A value for a scalar that no literal has, where naga panics, is
 // refused first; then what is not finite, then what does not fit, as there.
-ghost use Rattle.std.specs.Prelude.{◌≡◌, ◌*◌, ◌^◌, ◌<◌, ◌≤ℤ◌, IfOk, Some};
+ghost use Rattle.std.specs.Prelude.{◌≡◌, ◌*◌, ◌<◌, ◌≤ℤ◌, IfOk, Some};
 ghost use Rattle.rounding.specs.Shifts.{Narrow, Held};
 ghost use Rattle.rounding.specs.Formats.{sign_bit_of};
 ghost use Rattle.rounding.specs.Doubles.{truth};

@@ -1,7 +1,7 @@
 // Rounding by bits: the value of a narrower binary format that is nearest to a double.
 //
 // One function serves every format, by its digits and its largest exponent.
-ghost use Rattle.std.specs.Prelude.{◌≡◌, ◌+◌, ◌*◌, ◌^◌, ◌<◌, ◌≤◌};
+ghost use Rattle.std.specs.Prelude.{◌≡◌, ◌+◌, ◌*◌, ◌^◌, ◌<◌};
 ghost use Rattle.rounding.specs.Formats.{double, weight, infinity, sign_bit_of, significand, doublings, magnitude};
 ghost use Rattle.rounding.specs.Nearest.{Nearest};
 ghost use Rattle.rounding.specs.Shifts.{Narrow, Shifted, Rounded, Places};

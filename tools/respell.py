@@ -240,6 +240,7 @@ NAMES = """
     operandsThat operands_that
     out-before out_before
     outOfRange out_of_range_of
+    over-is over_is
     own-found own_found
     own-length own_length
     own-missed own_missed
@@ -332,6 +333,7 @@ NAMES = """
     u32-past u32_past
     uint-none uint_none
     uintName uint_name
+    under-is under_is
     units-is units_is
     unitsOf units_of
     usedAfter used_after

@@ -174,3 +174,19 @@ fn halves(rt: HostRuntime) {
     assert_eq!(rt; half_value(0x2e66), 0.0999755859375);
     assert_eq!(rt; half_value(0x7c00), f64::INFINITY);
 }
+
+#[test]
+fn halves_are_shown(rt: HostRuntime) -> Result<(), Fail> {
+    let heap = rt.alloc();
+    let settings = "a = 1\nb = 5.960464477539063e-8\nc = -65504\nd = 0.1\n";
+    let overrides = "- a f16 -\n- b f16 -\n- c f16 -\n- d f16 -\n";
+    let said = reported(heap, settings, overrides)?;
+    let expected = "override 0, name a, f16: key 0 `a` = 1, literal f16 1, bits 0x3c00
+override 1, name b, f16: key 1 `b` = 5.960464477539063e-8, literal f16 5.960464477539063e-8, bits 0x0001
+override 2, name c, f16: key 2 `c` = -65504, literal f16 -65504, bits 0xfbff
+override 3, name d, f16: key 3 `d` = 0.1, literal f16 0.0999755859375, bits 0x2e66
+4 overrides: 4 literals made, 0 inits kept, 0 refused; 0 keys not taken
+";
+    assert_eq!(rt; said.as_str(), expected);
+    Ok(())
+}

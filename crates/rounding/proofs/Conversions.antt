@@ -15,7 +15,7 @@ use Rattle.rounding.specs.Nearest.{Nearest}
 use Rattle.rounding.specs.Doubles.{units, whole, truth}
 use Rattle.rounding.specs.Conversion.{Whole, Rounds}
 use Rattle.rounding.proofs.Patterns.{weight_pos}
-use Rattle.rounding.proofs.Floats.{signed, under-is, over-is, cast_is, trunc_value, exact}
+use Rattle.rounding.proofs.Floats.{signed, under_is, over_is, cast_is, trunc_value, exact}
 
 pub chosen : (b : Bool) (P Q : Type 0) → b ≡ true → P → cond b P Q
 chosen true P Q h p = p
@@ -47,11 +47,11 @@ module _ (x : Float) (f : T (fits binary64 x)) (h : Floats.float_is_finite x ≡
 
   low_is : not (lt t (of_int binary64 low)) ≡ le_z low (whole x)
   unfolding whole
-  low_is = under-is t (Floats.is_sign_negative x) w cut low l.0 l.1
+  low_is = under_is t (Floats.is_sign_negative x) w cut low l.0 l.1
 
   high_is : not (lt (of_int binary64 high) t) ≡ le_z (whole x) high
   unfolding whole
-  high_is = over-is t (Floats.is_sign_negative x) w cut high g.0 g.1
+  high_is = over_is t (Floats.is_sign_negative x) w cut high g.0 g.1
 
   pub outside : (lt t (of_int binary64 low) ≡ true) ⊎ (lt (of_int binary64 high) t ≡ true) → Whole {X = ℤ} x (Err DstRangeTooSmall) low high (λ z. z)
   outside o =

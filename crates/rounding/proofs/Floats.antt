@@ -163,13 +163,13 @@ whole_float (negsuc n) l h = (true, suc n, refl, round_whole binary64 true (suc 
 
 module _ (x : Float) (s : Bool) (w : ℕ) (v : HasValue x s w 1) (z : ℤ) (l : negsuc (2 ^ 52) ≤ℤ z) (h : z ≤ℤ pos (2 ^ 52)) where
   -- whether the value is below z, and whether it is above
-  pub under-is : not (lt x (of_int binary64 z)) ≡ le_z z (signed s w)
-  under-is =
+  pub under_is : not (lt x (of_int binary64 z)) ≡ le_z z (signed s w)
+  under_is =
       let p = whole_float z l h in
       ap not (lt_values x (of_int binary64 z) s p.0 w p.1 v p.3) ∙ not_below s w p.0 p.1 ∙ ap (λ (y : ℤ). le_z y (signed s w)) p.2
 
-  pub over-is : not (lt (of_int binary64 z) x) ≡ le_z (signed s w) z
-  over-is =
+  pub over_is : not (lt (of_int binary64 z) x) ≡ le_z (signed s w) z
+  over_is =
       let p = whole_float z l h in
       ap not (lt_values (of_int binary64 z) x p.0 s p.1 w p.3 v) ∙ not_below p.0 p.1 s w ∙ ap (λ (y : ℤ). le_z (signed s w) y) p.2
 

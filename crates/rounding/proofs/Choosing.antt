@@ -1,7 +1,6 @@
 -- The nearest pattern is one of the two that a number lies between. Assumes nothing.
 use Rattle.std.proofs.Common.{◌≡◌, ℕ, suc, ◌-◌, ◌%◌, ◌<◌, ◌≤◌, sym, inl, inr, arith}
-use Rattle.rounding.specs.declared.formats.Format.{Format}
-use Rattle.rounding.specs.Formats.{infinity, significand, magnitude}
+use Rattle.rounding.specs.Formats.{Format, infinity, significand, magnitude}
 use Rattle.rounding.specs.Nearest.{Nearest, distance, NearestIsOne}
 use Rattle.rounding.proofs.Patterns.{either_way, magnitude_lt, magnitude_le, even_pattern}
 

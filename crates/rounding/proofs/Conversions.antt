@@ -1,21 +1,15 @@
 -- What the conversion's steps show of a double. Assumes nothing.
-use Rattle.std.proofs.Common.{◌≡◌, ℕ, zero, suc, ◌+◌, ◌*◌, ◌/◌, ◌^◌, ◌<◌, ◌≤◌, Bool, true, false, cond, not, ◌&&◌, ◌||◌, T, eqb, ltb, ◌⊎◌, ℤ, pos, ◌≤ℤ◌, Ok, Err, sym, refl, ap, ◌∙◌, subst, inl, inr, true≢false, zero-lt-suc, mul-lt-mul_of_pos_right, mul-pos, zero-mul, mul-one, arith, le-ltb, lt-ltb, ne_eqb}
+use Rattle.std.proofs.Common.{◌≡◌, ℕ, zero, suc, ◌+◌, ◌*◌, ◌<◌, ◌≤◌, Bool, true, false, cond, not, ◌&&◌, ◌||◌, T, eqb, ltb, pos, ℤ, Ok, Err, sym, refl, ap, ◌∙◌, subst, true≢false, zero-lt-suc, mul-pos, zero-mul, mul-one, arith, le-ltb, lt-ltb, ne_eqb}
 use mathlib.Core.Bool.{beq}
-use lib.Signed.{le_z}
-use lib.Ieee.{Float, nan, inf, fin, binary64, up, down, lt, eq, ne, is_nan, fits, of_int, of_bits, to_signed}
-use lib.Ieee.Exact.{HasValue}
+use lib.Ieee.{Float, nan, inf, fin, binary64, up, down, eq, ne, is_nan, fits, of_bits, to_bits}
 use lib.Ieee.Fits.{up_pos}
-use borrow.Author.Differences.{ints}
 use Rattle.std.specs.Float as Floats
-use Rattle.rounding.specs.declared.formats.Format.{Format}
 use Rattle.rounding.specs.declared.conversion.ConversionError.TheVariants.{DstRangeTooSmall}
-use Rattle.rounding.specs.Formats.{infinity, sign_bit_of}
-use Rattle.rounding.specs.Shifts.{Held}
+use Rattle.rounding.specs.Formats.{Format, double, infinity, sign_bit_of, magnitude}
 use Rattle.rounding.specs.Nearest.{Nearest}
-use Rattle.rounding.specs.Doubles.{units, whole, truth}
-use Rattle.rounding.specs.Conversion.{Whole, Rounds}
-use Rattle.rounding.proofs.Patterns.{weight_pos}
-use Rattle.rounding.proofs.Floats.{signed, under_is, over_is, cast_is, trunc_value, exact}
+use Rattle.rounding.specs.Doubles.{units, truth}
+use Rattle.rounding.specs.Conversion.{Rounds}
+use Rattle.rounding.proofs.Floats.{size_below, size_is}
 
 pub chosen : (b : Bool) (P Q : Type 0) → b ≡ true → P → cond b P Q
 chosen true P Q h p = p
@@ -25,70 +19,33 @@ pub passed : (b : Bool) (P Q : Type 0) → b ≡ false → Q → cond b P Q
 passed true P Q h q = absurd (true≢false h)
 passed false P Q h q = q
 
-both : (a b : Bool) → a ≡ true → b ≡ true → (a && b) ≡ true
-both true b h k = k
-both false b h k = h
-
-one_fails : (a b : Bool) → (a ≡ false) ⊎ (b ≡ false) → (a && b) ≡ false
-one_fails true b o = elim o [ inl e ↦ absurd (true≢false e) | inr e ↦ e ]
-one_fails false b o = refl
-
--- ---- whole numbers
-
-module _ (x : Float) (f : T (fits binary64 x)) (h : Floats.float_is_finite x ≡ true) (low high : ℤ) (l : Held low) (g : Held high) where
-  abbrev t : Float
-  t = Floats.trunc binary64 x
-
-  abbrev w : ℕ
-  w = units x / 2 ^ 1074
-
-  cut : HasValue t (Floats.is_sign_negative x) w 1
-  cut = trunc_value x (Floats.is_sign_negative x) (units x) f (exact x f h)
-
-  low_is : not (lt t (of_int binary64 low)) ≡ le_z low (whole x)
-  unfolding whole
-  low_is = under_is t (Floats.is_sign_negative x) w cut low l.0 l.1
-
-  high_is : not (lt (of_int binary64 high) t) ≡ le_z (whole x) high
-  unfolding whole
-  high_is = over_is t (Floats.is_sign_negative x) w cut high g.0 g.1
-
-  pub outside : (lt t (of_int binary64 low) ≡ true) ⊎ (lt (of_int binary64 high) t ≡ true) → Whole {X = ℤ} x (Err DstRangeTooSmall) low high (λ z. z)
-  outside o =
-      chosen (Floats.float_is_finite x) _ _ h
-      (passed (le_z low (whole x) && le_z (whole x) high) _ _ (one_fails (le_z low (whole x)) (le_z (whole x) high) (elim o [ inl e ↦ inl (sym low_is ∙ ap not e) | inr e ↦ inr (sym high_is ∙ ap not e) ])) refl)
-
-  -- `omega` takes no number as long as 2 ^ 1074, so this speaks of any size n
-  near : (b : Bool) (n : ℕ) → le_z (signed b n) high ≡ true → le_z low (signed b n) ≡ true → n < 2 ^ 63
-  near true zero p q = omega arith
-  near true (suc n) p q = grind (arith, ints)
-  near false n p q = grind (arith, ints)
-
-  cast : le_z low (whole x) ≡ true → le_z (whole x) high ≡ true → to_signed 63 t ≡ whole x
-  unfolding whole
-  cast p q = cast_is t (Floats.is_sign_negative x) w cut (near (Floats.is_sign_negative x) w q p)
-
-  pub inside : lt t (of_int binary64 low) ≡ false → lt (of_int binary64 high) t ≡ false → (z : ℤ) → z ≡ to_signed 63 t → Whole x (Ok z) low high (λ y. y) × (low ≤ℤ z) × (z ≤ℤ high)
-  inside a b z e =
-      let p : le_z low (whole x) ≡ true = sym low_is ∙ ap not a in
-      let q : le_z (whole x) high ≡ true = sym high_is ∙ ap not b in
-      let is : z ≡ whole x = e ∙ cast p q in (
-        chosen (Floats.float_is_finite x) _ _ h (chosen (le_z low (whole x) && le_z (whole x) high) _ _ (both (le_z low (whole x)) (le_z (whole x) high) p q) (ap Ok is)),
-        subst (λ (y : ℤ). low ≤ℤ y) (sym is) (record { le = subst T (sym p) tt }),
-        subst (λ (y : ℤ). y ≤ℤ high) (sym is) (record { le = subst T (sym q) tt }),
-      )
-
 -- ---- floats
 
-pub infinity_lt : (f : Format) → infinity f < sign_bit_of f
-infinity_lt f = mul-lt-mul_of_pos_right (omega arith) (weight_pos f)
+-- y is the size of a finite value x, which the code has under the name v too
+module _ (x v y : Float) (t : fits binary64 x ≡ true) (s : (v ≡ x) × Floats.NotNan v × (Floats.float_is_finite v ≡ true)) (e : y ≡ Floats.float_with_sign false v) where
+  fine : T (fits binary64 x)
+  fine = subst T (sym t) tt
 
-module _ (x : Float) (h : Floats.float_is_finite x ≡ true) (f : Format) (q : ℕ) (near : Nearest f (units x) q) where
-  pub too_large : infinity f ≤ q → Rounds {X = ℕ} x (Err DstRangeTooSmall) f (λ p. p)
-  too_large l = chosen (Floats.float_is_finite x) _ _ h (q, near, passed (ltb q (infinity f)) _ _ (le-ltb q (infinity f) l) refl)
+  pub finite : Floats.float_is_finite x ≡ true
+  finite = ap Floats.float_is_finite (sym s.0) ∙ s.2
 
-  pub rounds_to : q < infinity f → (r : ℕ) → r ≡ cond (Floats.is_sign_negative x) (sign_bit_of f) 0 + q → Rounds x (Ok r) f (λ p. p)
-  rounds_to l r e = chosen (Floats.float_is_finite x) _ _ h (q, near, chosen (ltb q (infinity f)) _ _ (lt-ltb q (infinity f) l) (ap Ok e))
+  of_x : y ≡ Floats.float_with_sign false x
+  of_x = e ∙ ap (Floats.float_with_sign false) s.0
+
+  pub below : to_bits binary64 y < infinity double
+  below = size_below x y of_x fine finite
+
+  module _ (f : Format) (q : ℕ) (near : Nearest f (magnitude double (to_bits binary64 y)) q) where
+    here : Nearest f (units x) q
+    here = subst (λ (k : ℕ). Nearest f k q) (size_is x y of_x fine finite) near
+
+    pub too_large : infinity f ≤ q → Rounds {X = ℕ} x (Err DstRangeTooSmall) f (λ p. p)
+    too_large l = chosen (Floats.float_is_finite x) _ _ finite (q, here, passed (ltb q (infinity f)) _ _ (le-ltb q (infinity f) l) refl)
+
+    pub rounds_to : q < infinity f → (sign : ℕ) → sign ≡ cond (Floats.is_sign_negative v) (sign_bit_of f) 0 → Rounds x (Ok (sign + q)) f (λ p. p)
+    rounds_to l sign g =
+        let k : sign ≡ cond (Floats.is_sign_negative x) (sign_bit_of f) 0 = g ∙ ap (λ (z : Float). cond (Floats.is_sign_negative z) (sign_bit_of f) 0) s.0 in
+        chosen (Floats.float_is_finite x) _ _ finite (q, here, chosen (ltb q (infinity f)) _ _ (lt-ltb q (infinity f) l) (ap (λ (z : ℕ). Ok (z + q)) k))
 
 -- ---- the truth of a value
 

@@ -2,8 +2,7 @@
 use Rattle.std.proofs.Common.{◌≡◌, ℕ, zero, suc, ◌+◌, ◌-◌, ◌*◌, ◌/◌, ◌%◌, ◌^◌, ◌<◌, ◌≤◌, Bool, true, false, not, T, ltb, ◌⊎◌, sym, refl, ap, ◌∙◌, inl, inr, add-zero, mod-lt, mul_assoc, mul_comm, add-mul, one-mul, pow-suc, div-add-mod', le-div_iff_mul-le, zero-mul, mul-one, add-one, arith, ltb→lt, nltb→le, pow_pos, le-ltb, lt-ltb}
 use native.Mathlib.Nat.{div-eq_of_lt}
 use lib.Arith.{digits_div, digits_mod}
-use Rattle.rounding.specs.declared.formats.Format.{Format}
-use Rattle.rounding.specs.Formats.{weight, step, significand, doublings, magnitude}
+use Rattle.rounding.specs.Formats.{Format, weight, step, significand, doublings, magnitude}
 
 pub either_way : (a b : ℕ) → (a < b) ⊎ (b ≤ a)
 either_way a b = go (ltb a b) (ltb→lt a b) (nltb→le a b)

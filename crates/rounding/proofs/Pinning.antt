@@ -3,7 +3,6 @@ use Rattle.std.proofs.Common.{◌≡◌, ℕ, ◌+◌, ◌-◌, ◌^◌, ◌≤�
 use lib.Signed.{le_z}
 use lib.Ieee as Ieee
 use Rattle.std.specs.Float.{float_is_finite, is_sign_negative}
-use Rattle.rounding.specs.declared.formats.Format.{Format}
 use Rattle.rounding.specs.declared.scalars.Scalar.{Scalar}
 use Rattle.rounding.specs.declared.scalars.ScalarKind.{ScalarKind}
 use Rattle.rounding.specs.declared.scalars.ScalarKind.TheVariants as Kinds
@@ -11,7 +10,7 @@ use Rattle.rounding.specs.declared.literals.Literal.{Literal}
 use Rattle.rounding.specs.declared.literals.Literal.TheVariants as Literals
 use Rattle.rounding.specs.declared.conversion.ConversionError.{ConversionError}
 use Rattle.rounding.specs.declared.conversion.ConversionError.TheVariants.{SrcNeedsToBeFinite, DstRangeTooSmall, UnsupportedScalar}
-use Rattle.rounding.specs.Formats.{half, single, infinity, sign_bit_of}
+use Rattle.rounding.specs.Formats.{Format, half, single, infinity, sign_bit_of}
 use Rattle.rounding.specs.Doubles.{units, whole}
 use Rattle.rounding.specs.Conversion.{Answer, code_of, Refused, Whole, Rounds, OfKind, Becomes, Pinned}
 use Rattle.rounding.proofs.Choosing.{nearest_is_one}

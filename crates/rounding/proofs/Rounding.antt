@@ -1,7 +1,6 @@
 -- m * 2 ^ e units, cut by s digits to the places of a field y and rounded there: the pattern that comes out is the nearest. Over every format. Assumes nothing.
 use Rattle.std.proofs.Common.{◌≡◌, ℕ, suc, ◌+◌, ◌-◌, ◌*◌, ◌/◌, ◌%◌, ◌^◌, ◌<◌, ◌≤◌, min, sym, refl, ap, ◌∙◌, inl, inr, mod-lt, mul_assoc, mul_comm, add-mul, mul-lt-mul_of_pos_right, mul-pos, one-mul, pow-suc, div-add-mod', zero-add, zero-mul, mul_right_comm, add-one, arith, pow_pos, pow-add}
-use Rattle.rounding.specs.declared.formats.Format.{Format}
-use Rattle.rounding.specs.Formats.{weight, infinity, step, magnitude}
+use Rattle.rounding.specs.Formats.{Format, weight, infinity, step, magnitude}
 use Rattle.rounding.specs.Nearest.{Nearest}
 use Rattle.rounding.specs.Shifts.{Rounded}
 use Rattle.rounding.proofs.Patterns.{either_way, Stands, weight_pos, magnitude_of, magnitude_le, even_pattern}

@@ -2,8 +2,7 @@
 use Rattle.std.specs.Prelude.{ℕ, ◌%◌, ◌^◌, ◌<◌, nat_le}
 use Rattle.std.specs.Float.Ieee as Ieee
 use Rattle.std.specs.Float.Ieee.Exact.{HasValue}
-use Rattle.rounding.specs.declared.formats.Format.{Format}
-use Rattle.rounding.specs.Formats.{infinity, sign_bit_of, magnitude}
+use Rattle.rounding.specs.Formats.{Format, infinity, sign_bit_of, magnitude}
 
 abbrev pub format_of : Ieee.Format → Format
 format_of f = record { digits = Ieee.prec f; emax = Ieee.emax f }

@@ -2,7 +2,6 @@
 use Rattle.std.specs.Prelude.{◌≡◌, ℕ, ◌+◌, ◌-◌, ◌^◌, cond, ◌&&◌, List, ℤ, pos, negsuc, Ok, Err, codes, Result, ◌==◌, int_le, nat_lt, unsigned_abs}
 use Rattle.std.specs.Float.Ieee as Ieee
 use Rattle.std.specs.Float.{float_is_finite, is_sign_negative, binary64}
-use Rattle.rounding.specs.declared.formats.Format.{Format}
 use Rattle.rounding.specs.declared.scalars.Scalar.{Scalar}
 use Rattle.rounding.specs.declared.scalars.ScalarKind.{ScalarKind}
 use Rattle.rounding.specs.declared.scalars.ScalarKind.TheVariants.{Sint, Uint, Float, Bool}
@@ -10,7 +9,7 @@ use Rattle.rounding.specs.declared.literals.Literal.{Literal}
 use Rattle.rounding.specs.declared.literals.Literal.TheVariants as Literals
 use Rattle.rounding.specs.declared.conversion.ConversionError.{ConversionError}
 use Rattle.rounding.specs.declared.conversion.ConversionError.TheVariants.{SrcNeedsToBeFinite, DstRangeTooSmall, UnsupportedScalar}
-use Rattle.rounding.specs.Formats.{half, single, infinity, sign_bit_of}
+use Rattle.rounding.specs.Formats.{Format, half, single, infinity, sign_bit_of}
 use Rattle.rounding.specs.Nearest.{Nearest}
 use Rattle.rounding.specs.Doubles.{units, whole, truth}
 

@@ -1,6 +1,10 @@
--- IEEE 754's binary formats, by their bit patterns. A `Format` has the binary digits of a significand, the leading one counted (`digits`), and the exponent of the largest values, which lie below 2 ^ (emax + 1) (`emax`). A value's magnitude is a whole number of units, each 2^-1074, the smallest double above 0.
+-- IEEE 754's binary formats, by their bit patterns. A value's magnitude is a whole number of units, each 2^-1074, the smallest double above 0.
 use Rattle.std.specs.Prelude.{◌≡◌, ℕ, ◌+◌, ◌-◌, ◌*◌, ◌/◌, ◌%◌, ◌^◌, cond, nat_lt}
-use Rattle.rounding.specs.declared.formats.Format.{Format}
+
+-- the binary digits of a significand, the leading one counted, and the exponent of the largest values, which lie below 2 ^ (emax + 1)
+pub record Format : Type 0 where
+  pub digits : ℕ
+  pub emax : ℕ
 
 abbrev pub half : Format
 half = record { digits = 11; emax = 15 }

@@ -1,7 +1,6 @@
 -- IEEE 754's rounding to nearest, ties to even: the value of a format that is nearest to a number of units. The infinity takes part as an even value, and stands for 2 ^ (emax + 1).
 use Rattle.std.specs.Prelude.{◌≡◌, ℕ, ◌+◌, ◌-◌, ◌%◌, ◌≤◌, ◌≢◌}
-use Rattle.rounding.specs.declared.formats.Format.{Format}
-use Rattle.rounding.specs.Formats.{infinity, significand, magnitude}
+use Rattle.rounding.specs.Formats.{Format, infinity, significand, magnitude}
 
 abbrev pub distance : ℕ → ℕ → ℕ
 distance a b = (a - b) + (b - a)

@@ -2,23 +2,25 @@
 //
 // naga's `map_value_to_literal`. A value for a scalar that no literal has, where naga panics, is
 // refused first; then what is not finite, then what does not fit, as there.
-ghost use Rattle.std.specs.Prelude.{◌≡◌, ◌*◌, ◌<◌, ◌≤ℤ◌, IfOk, Some};
-ghost use Rattle.rounding.specs.Shifts.{Narrow, Held};
+ghost use Rattle.std.specs.Prelude.{◌≡◌, ◌*◌, ◌<◌, true, IfOk, Ok, Some};
+ghost use Rattle.std.specs.Float.{NotNan, float_is_finite};
 ghost use Rattle.rounding.specs.Formats.{sign_bit_of};
 ghost use Rattle.rounding.specs.Doubles.{truth};
-ghost use Rattle.rounding.specs.Conversion.{code_of, told_as, Whole, Rounds, OfKind, Pinned};
+ghost use Rattle.rounding.specs.Conversion.{code_of, told_as, Finite, Rounds, Becomes, Pinned};
+ghost use Rattle.rounding.specs.Shifts.{Converted};
 
 use crate::formats::{Format, HALF, SINGLE};
 use crate::literals::Literal;
 use crate::scalars::{Scalar, ScalarKind};
+use std::num::TryFromIntError;
 use std::{fmt, num};
 
-// Why a value makes no literal. The first two names are naga's.
+// Why a value makes no literal, by the refusal's number. The first two names are naga's.
 #[derive(Clone, Copy, PartialEq, Eq, Debug)]
 pub enum ConversionError {
-    SrcNeedsToBeFinite,
-    DstRangeTooSmall,
-    UnsupportedScalar,
+    SrcNeedsToBeFinite = 9,
+    DstRangeTooSmall = 10,
+    UnsupportedScalar = 11,
 }
 
 impl ConversionError {
@@ -26,14 +28,11 @@ impl ConversionError {
     pub fn code(&self) -> u8
         ensures { result ≡ code_of self.now }
     {
-        match *self {
-            ConversionError::SrcNeedsToBeFinite => 9,
-            ConversionError::DstRangeTooSmall => 10,
-            ConversionError::UnsupportedScalar => 11,
-        }
+        *self as u8
     }
 }
 
+// By hand, since callers' clauses may speak of what is written.
 impl fmt::Display for ConversionError {
     ghost output = { λ e. Some (told_as e) };
 
@@ -46,41 +45,45 @@ impl fmt::Display for ConversionError {
     }
 }
 
-// The value without its fraction, if that lies from `low` to `high`.
-fn whole_within(value: f64, low: i64, high: i64) -> Result<i64, ConversionError>
-    requires { Held low × Held high }
-    ensures cases { Whole value result low high (λ z. z) }
-    ensures bound { IfOk result (λ z. (low ≤ℤ z) × (z ≤ℤ high)) }
+// The value, if it is finite.
+fn finite(value: f64) -> Result<f64, ConversionError>
+    ensures cases { Finite value result (result ≡ Ok value) }
+    ensures finite { IfOk result (λ v. (v ≡ value) × NotNan v × (float_is_finite v ≡ true)) }
 {
-    if !value.is_finite() {
-        return Err(ConversionError::SrcNeedsToBeFinite);
+    if value.is_finite() {
+        Ok(value)
+    } else {
+        Err(ConversionError::SrcNeedsToBeFinite)
     }
-    let whole = value.trunc();
-    if whole < low as f64 || whole > high as f64 {
-        return Err(ConversionError::DstRangeTooSmall);
-    }
-    Ok(num::saturating_f64_to_i64(whole))
+}
+
+// The value without its fraction, if `T`, a type narrower than 64 bits, has it.
+fn whole_as<T: TryFrom<i64, Error = TryFromIntError> + Drop>(
+    value: f64,
+) -> Result<T, ConversionError>
+    ensures { Converted value T.try_from_gives result }
+{
+    // past the ends of 64 bits this is the end
+    let whole = num::saturating_f64_to_i64(finite(value)?);
+    T::try_from(whole).or(Err(ConversionError::DstRangeTooSmall))
 }
 
 // The pattern of the format's value that is nearest to `value`, with its sign.
 fn rounded(value: f64, format: Format) -> Result<u64, ConversionError>
-    requires { Narrow format }
     ensures cases { Rounds value result format (λ p. p) }
     ensures bound { IfOk result (λ p. p < 2 * sign_bit_of format) }
 {
-    if !value.is_finite() {
-        return Err(ConversionError::SrcNeedsToBeFinite);
-    }
-    let bits = value.to_bits();
-    let pattern = format.nearest(bits % 0x8000_0000_0000_0000);
+    let value = finite(value)?;
+    let pattern = format.nearest(value.abs().to_bits());
     if pattern >= format.infinity() {
         return Err(ConversionError::DstRangeTooSmall);
     }
-    if bits < 0x8000_0000_0000_0000 {
-        Ok(pattern)
+    let sign = if value.is_sign_negative() {
+        format.sign_bit()
     } else {
-        Ok(format.sign_bit() + pattern)
-    }
+        0
+    };
+    Ok(sign + pattern)
 }
 
 // Every value but the zeros and the NaNs.
@@ -90,22 +93,19 @@ fn is_true(value: f64) -> bool
     value != 0.0 && !value.is_nan()
 }
 
-// The literal of the scalar type that has this kind and this width in bytes.
-fn literal_of(value: f64, kind: ScalarKind, width: u8) -> Result<Literal, ConversionError>
-    ensures { OfKind kind width value result }
+// The literal of the scalar type.
+fn literal_of(value: f64, scalar: Scalar) -> Result<Literal, ConversionError>
+    ensures { Becomes scalar value result }
 {
-    match (kind, width) {
+    match (scalar.kind, scalar.width) {
         (ScalarKind::Bool, 1) => Ok(Literal::Bool(is_true(value))),
-        (ScalarKind::Sint, 2) => Ok(Literal::I16(whole_within(value, -32768, 32767)? as i16)),
-        (ScalarKind::Uint, 2) => Ok(Literal::U16(whole_within(value, 0, 65535)? as u16)),
-        (ScalarKind::Sint, 4) => Ok(Literal::I32(
-            whole_within(value, -2147483648, 2147483647)? as i32,
-        )),
-        (ScalarKind::Uint, 4) => Ok(Literal::U32(whole_within(value, 0, 4294967295)? as u32)),
+        (ScalarKind::Sint, 2) => Ok(Literal::I16(whole_as(value)?)),
+        (ScalarKind::Uint, 2) => Ok(Literal::U16(whole_as(value)?)),
+        (ScalarKind::Sint, 4) => Ok(Literal::I32(whole_as(value)?)),
+        (ScalarKind::Uint, 4) => Ok(Literal::U32(whole_as(value)?)),
         (ScalarKind::Float, 2) => Ok(Literal::F16(rounded(value, HALF)? as u16)),
         (ScalarKind::Float, 4) => Ok(Literal::F32(rounded(value, SINGLE)? as u32)),
-        (ScalarKind::Float, 8) if value.is_finite() => Ok(Literal::F64(value.to_bits())),
-        (ScalarKind::Float, 8) => Err(ConversionError::SrcNeedsToBeFinite),
+        (ScalarKind::Float, 8) => Ok(Literal::F64(finite(value)?.to_bits())),
         _ => Err(ConversionError::UnsupportedScalar),
     }
 }
@@ -114,5 +114,5 @@ fn literal_of(value: f64, kind: ScalarKind, width: u8) -> Result<Literal, Conver
 pub fn map_value_to_literal(value: f64, scalar: Scalar) -> Result<Literal, ConversionError>
     ensures { Pinned scalar value result }
 {
-    literal_of(value, scalar.kind, scalar.width)
+    literal_of(value, scalar)
 }

@@ -5,9 +5,10 @@ use Rattle.std.proofs.lemmas.Nat.{div_below, le-div}
 use lib.Ieee as Ieee
 use lib.Ieee.{Float, nan, inf, fin, up, down, of_fields, of_bits, odd, prec, hid, ones, top, binary32, binary64}
 use lib.Ieee.Exact.{HasValue, odd_sign}
+use Rattle.std.proofs.lemmas.Bool.{cases_lt}
 use Rattle.rounding.specs.Formats.{infinity, step, significand, doublings, magnitude}
 use Rattle.rounding.specs.Agrees.{format_of, Agrees}
-use Rattle.rounding.proofs.Patterns.{either_way, weight_pos, significand_low, significand_high, magnitude_is}
+use Rattle.rounding.proofs.Patterns.{weight_pos, significand_low, significand_high, magnitude_is}
 
 scale : (x : Float) (s : Bool) (a l j : ℕ) → HasValue x s a (2 ^ l) → HasValue x s (a * 2 ^ j) (2 ^ (l + j))
 scale nan s a l j h = absurd h
@@ -46,10 +47,10 @@ value f s q l =
     let m = significand g q in
     fields f s (q / hid f) (q % hid f) (m * 2 ^ (q / hid f - 1)) (div_below q (hid f) (ones f) w l)
     (λ z.
-    let lo : q < hid f = elim (either_way q (hid f)) [ inl h ↦ h | inr h ↦ absurd (omega (arith, le-div 1 q (hid f) w (omega arith))) ] in
+    let lo : q < hid f = elim (cases_lt q (hid f)) [ inl h ↦ h | inr h ↦ absurd (omega (arith, le-div 1 q (hid f) w (omega arith))) ] in
     ap (λ (x : ℕ). m * 2 ^ (x - 1)) z ∙ mul-one m ∙ significand_low g q lo ∙ sym (mod-eq_of_lt lo))
     (λ y e.
-    let hi : hid f ≤ q = elim (either_way q (hid f)) [ inl h ↦ absurd (omega (arith, div-eq_of_lt h)) | inr h ↦ h ] in
+    let hi : hid f ≤ q = elim (cases_lt q (hid f)) [ inl h ↦ absurd (omega (arith, div-eq_of_lt h)) | inr h ↦ h ] in
     let d : q / hid f - 1 ≡ y = omega arith in
     ap (λ (x : ℕ). m * 2 ^ x) d ∙ ap (λ (x : ℕ). x * 2 ^ y) (significand_high g q hi))
 

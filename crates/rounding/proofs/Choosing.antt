@@ -1,8 +1,10 @@
 -- The nearest pattern is one of the two that a number lies between. Assumes nothing.
 use Rattle.std.proofs.Common.{◌≡◌, ℕ, suc, ◌-◌, ◌%◌, ◌<◌, ◌≤◌, sym, inl, inr, arith}
+use Rattle.std.proofs.lemmas.Bool.{cases_lt}
+use Rattle.std.specs.Int.{abs_diff}
 use Rattle.rounding.specs.Formats.{Format, infinity, significand, magnitude}
-use Rattle.rounding.specs.Nearest.{Nearest, distance, NearestIsOne}
-use Rattle.rounding.proofs.Patterns.{either_way, magnitude_lt, magnitude_le, even_pattern}
+use Rattle.rounding.specs.Nearest.{Nearest, NearestIsOne}
+use Rattle.rounding.proofs.Patterns.{magnitude_lt, magnitude_le, even_pattern}
 
 -- n is as near as can be to q, which stands for g, where the patterns below stand for at most lo and those above for at least hi
 module _ (f : Format) (n a : ℕ) (below : a < infinity f) (low : magnitude f a ≤ n) (high : n ≤ magnitude f (suc a)) where
@@ -10,11 +12,11 @@ module _ (f : Format) (n a : ℕ) (below : a < infinity f) (low : magnitude f a 
   pub choose_low : n - magnitude f a ≤ magnitude f (suc a) - n → (n - magnitude f a ≡ magnitude f (suc a) - n → significand f a % 2 ≡ 0) → Nearest f n a
   choose_low near even = record {
     among = omega arith;
-    nearer = λ r h. elim (either_way a r) [
+    nearer = λ r h. elim (cases_lt a r) [
       | inl l ↦ omega (arith, magnitude_le f (suc a) r l)
       | inr l ↦ omega (arith, magnitude_le f r a l)
     ];
-    even = λ r h ne e. elim (either_way a r) [
+    even = λ r h ne e. elim (cases_lt a r) [
       | inl l ↦ even (omega (arith, magnitude_le f (suc a) r l))
       | inr l ↦ (let k : r < a = omega arith in omega (arith, magnitude_lt f r a k))
     ];
@@ -24,11 +26,11 @@ module _ (f : Format) (n a : ℕ) (below : a < infinity f) (low : magnitude f a 
   pub choose_high : magnitude f (suc a) - n ≤ n - magnitude f a → (n - magnitude f a ≡ magnitude f (suc a) - n → significand f (suc a) % 2 ≡ 0) → Nearest f n (suc a)
   choose_high near even = record {
     among = omega arith;
-    nearer = λ r h. elim (either_way a r) [
+    nearer = λ r h. elim (cases_lt a r) [
       | inl l ↦ omega (arith, magnitude_le f (suc a) r l)
       | inr l ↦ omega (arith, magnitude_le f r a l)
     ];
-    even = λ r h ne e. elim (either_way a r) [
+    even = λ r h ne e. elim (cases_lt a r) [
       | inl l ↦ (let k : suc a < r = omega arith in omega (arith, magnitude_lt f (suc a) r k))
       | inr l ↦ even (omega (arith, magnitude_le f r a l))
     ];
@@ -45,7 +47,7 @@ choose_infinity f n h = record {
 -- ---- there is one
 apart : (f : Format) → 2 ≤ f.digits → (n q r : ℕ) → Nearest f n q → Nearest f n r → q < r → ⊥
 apart f d n q r x y l =
-    let e : distance (magnitude f q) n ≡ distance (magnitude f r) n = omega (arith, x.nearer r y.among, y.nearer q x.among) in
+    let e : abs_diff (magnitude f q) n ≡ abs_diff (magnitude f r) n = omega (arith, x.nearer r y.among, y.nearer q x.among) in
     let a : significand f q % 2 ≡ 0 = x.even r y.among (omega arith) (sym e) in
     let b : significand f r % 2 ≡ 0 = y.even q x.among (omega arith) e in
     let gap : suc q < r = omega (arith, even_pattern f d q, even_pattern f d r) in
@@ -54,7 +56,7 @@ apart f d n q r x y l =
 
 pub nearest_is_one : NearestIsOne
 nearest_is_one f d n q r x y =
-    elim (either_way q r) [
+    elim (cases_lt q r) [
       | inl l ↦ absurd (apart f d n q r x y l)
-      | inr l ↦ elim (either_way r q) [ inl k ↦ absurd (apart f d n r q y x k) | inr k ↦ omega arith ]
+      | inr l ↦ elim (cases_lt r q) [ inl k ↦ absurd (apart f d n r q y x k) | inr k ↦ omega arith ]
     ]

@@ -1,7 +1,6 @@
 -- What the conversion's steps show of a double. Assumes nothing.
-use Rattle.std.proofs.Common.{◌≡◌, ℕ, zero, suc, ◌+◌, ◌*◌, ◌<◌, ◌≤◌, Bool, true, false, cond, not, ◌&&◌, ◌||◌, T, eqb, ltb, pos, ℤ, Ok, Err, sym, refl, ap, ◌∙◌, subst, true≢false, zero-lt-suc, mul-pos, zero-mul, mul-one, arith, le-ltb, lt-ltb, ne_eqb}
-use mathlib.Core.Bool.{beq}
-use lib.Ieee.{Float, nan, inf, fin, binary64, up, down, eq, ne, is_nan, fits, of_bits, to_bits}
+use Rattle.std.proofs.Common.{◌≡◌, ℕ, zero, suc, ◌+◌, ◌*◌, ◌<◌, ◌≤◌, Bool, true, false, cond, not, T, eqb, ltb, pos, ℤ, Ok, Err, sym, refl, ap, ◌∙◌, subst, true≢false, zero-lt-suc, mul-pos, zero-mul, mul-one, arith, le-ltb, lt-ltb, ne_eqb}
+use lib.Ieee.{Float, nan, inf, fin, binary64, up, eq, ne, is_nan, fits, of_bits, to_bits}
 use lib.Ieee.Fits.{up_pos}
 use Rattle.std.specs.Float as Floats
 use Rattle.rounding.specs.declared.conversion.ConversionError.TheVariants.{DstRangeTooSmall}
@@ -53,24 +52,14 @@ zero_is : of_bits binary64 0 ≡ fin false 0 (pos 0)
 unfolding of_bits
 zero_is = refl
 
-absorbed : (b c : Bool) → (b && (c || b)) ≡ b
-absorbed true true = refl
-absorbed true false = refl
-absorbed false c = refl
-
 -- a finite value differs from 0 exactly if its digits do
 nonzero : (s : Bool) (m : ℕ) (e : ℤ) → ne (fin s m e) (fin false 0 (pos 0)) ≡ not (eqb m 0)
 unfolding ne eq
-nonzero s m e =
-    let a : eqb (m * up e * 1) (0 * 1 * down e) ≡ eqb m 0 = ap (eqb (m * up e * 1)) (zero-mul (down e)) ∙ alone m (up e) (up_pos e) in
-    let b : eqb (m * up e * 1) 0 ≡ eqb m 0 = alone m (up e) (up_pos e) in
-    ap (λ (z : Bool). not (z && (beq s false || eqb (m * up e * 1) 0))) a ∙ ap (λ (z : Bool). not (eqb m 0 && (beq s false || z))) b ∙ ap not (absorbed (eqb m 0) (beq s false))
-  where
-    alone : (k u : ℕ) → 0 < u → eqb (k * u * 1) 0 ≡ eqb k 0
-    alone zero u p = ap (λ (z : ℕ). eqb (z * 1) 0) (zero-mul u)
-    alone (suc k) u p =
-        let h : 0 < suc k * u = mul-pos (zero-lt-suc k) p in
-        ap (λ (z : ℕ). eqb z 0) (mul-one (suc k * u)) ∙ ne_eqb (suc k * u) 0 (λ z. omega arith) ∙ sym (ne_eqb (suc k) 0 (λ z. omega arith))
+nonzero true zero e = simp zero-mul
+nonzero false zero e = simp zero-mul
+nonzero s (suc m) e =
+    let p : 0 < suc m * up e = mul-pos (zero-lt-suc m) (up_pos e) in
+    simp (zero-mul, mul-one, ne_eqb (suc m * up e) 0 (λ z. omega arith), ne_eqb (suc m) 0 (λ z. omega arith))
 
 -- where the value differs from 0 only a NaN is false
 pub truth_other : (x : Float) → ne x (of_bits binary64 0) ≡ true → not (is_nan x) ≡ truth x

@@ -1,9 +1,10 @@
 -- What a double's parts say, for a format with fewer digits. Assumes nothing.
 use Rattle.std.proofs.Common.{◌≡◌, ℕ, suc, ◌+◌, ◌-◌, ◌*◌, ◌/◌, ◌^◌, ◌<◌, ◌≤◌, min, sym, ap, subst, ◌∙◌, inl, inr, lt_of_lt_of_le, add-zero, mul-le-mul_right, mul_comm, mul-lt-mul_of_pos_right, pow-suc, le-div_iff_mul-le, arith, pow_pos, pow_mono, pow-add, shr_lt}
+use Rattle.std.proofs.lemmas.Bool.{cases_lt}
 use Rattle.rounding.specs.Formats.{Format, double, weight, infinity, step, significand, doublings, magnitude}
 use Rattle.rounding.specs.Nearest.{Nearest}
 use Rattle.rounding.specs.Shifts.{Narrow, Rounded}
-use Rattle.rounding.proofs.Patterns.{either_way, Stands, stands, below_two, magnitude_is}
+use Rattle.rounding.proofs.Patterns.{Stands, stands, below_two, magnitude_is}
 use Rattle.rounding.proofs.Rounding.{rounds, rounds_to_zero}
 
 significand_lt : (bits : ℕ) → significand double bits < 2 ^ 53
@@ -52,7 +53,7 @@ module _ (f : Format) (n : Narrow f) (bits : ℕ) where
   nearest_of k d r q ke de ro qe =
       let one : 1 ≤ f.digits = omega (arith, n.0) in
       let big : 53 ≤ f.digits + s = omega (arith, n.1, n.3) in
-      let st : Stands (weight f) y (m / 2 ^ s) = elim (either_way 0 y) [
+      let st : Stands (weight f) y (m / 2 ^ s) = elim (cases_lt 0 y) [
         | inl l ↦ elim (stands double bits) [ inl z ↦ absurd (omega (arith, n.1, n.3)) | inr g ↦ inr (kept_leads f.digits m s one g (omega (arith, n.1, n.3))) ]
         | inr l ↦ inl (omega arith)
       ] in

@@ -5,12 +5,11 @@ use lib.Ieee.Exact.{HasValue}
 use lib.Ieee.Bits.{of_bits-to_bits}
 use lib.Ieee.Fits.{down_pos}
 use lib.Ieee.Nearest.{div_same}
-use Rattle.std.proofs.lemmas.Bool.{leb-false}
 use Rattle.std.specs.Float as Floats
 use Rattle.std.specs.Int.{saturate_to_bits}
+use Rattle.std.proofs.lemmas.Bool.{cases_lt, leb-false}
 use Rattle.rounding.specs.Formats.{double, infinity, magnitude}
 use Rattle.rounding.specs.Doubles.{units, whole}
-use Rattle.rounding.proofs.Patterns.{either_way}
 use Rattle.rounding.proofs.Agreeing.{agrees}
 
 -- ---- its units
@@ -33,7 +32,7 @@ beyond s x t e = subst (λ (k : ℕ). Floats.float_is_finite (of_fields binary64
 pub finite_below : (bits : ℕ) → Floats.float_is_finite (of_bits binary64 bits) ≡ true → bits % 2 ^ 63 < infinity double
 unfolding of_bits
 finite_below bits h =
-    elim (either_way (bits % 2 ^ 63) (infinity double)) [
+    elim (cases_lt (bits % 2 ^ 63) (infinity double)) [
       | inl l ↦ l
       | inr l ↦ absurd (true≢false (sym h ∙ beyond (sign_of bits) (bits % 2 ^ 63 / 2 ^ 52) (bits % 2 ^ 52) (omega arith)))
     ]

@@ -1,15 +1,9 @@
 -- A pattern y * weight + q with a significand q: what it stands for. The larger pattern stands for more, and a significand is even where its pattern is. Assumes nothing.
-use Rattle.std.proofs.Common.{◌≡◌, ℕ, zero, suc, ◌+◌, ◌-◌, ◌*◌, ◌/◌, ◌%◌, ◌^◌, ◌<◌, ◌≤◌, Bool, true, false, not, T, ltb, ◌⊎◌, sym, refl, ap, ◌∙◌, inl, inr, add-zero, mod-lt, mul_assoc, mul_comm, add-mul, one-mul, pow-suc, div-add-mod', le-div_iff_mul-le, zero-mul, mul-one, add-one, arith, ltb→lt, nltb→le, pow_pos, le-ltb, lt-ltb}
+use Rattle.std.proofs.Common.{◌≡◌, ℕ, zero, suc, ◌+◌, ◌-◌, ◌*◌, ◌/◌, ◌%◌, ◌^◌, ◌<◌, ◌≤◌, ◌⊎◌, sym, refl, ap, ◌∙◌, inl, inr, add-zero, mod-lt, mul_assoc, add-mul, one-mul, pow-suc, div-add-mod', le-div_iff_mul-le, zero-mul, mul-one, add-one, suc-mul, arith, pow_pos, le-ltb, lt-ltb}
 use native.Mathlib.Nat.{div-eq_of_lt}
 use lib.Arith.{digits_div, digits_mod}
+use Rattle.std.proofs.lemmas.Bool.{cases_lt}
 use Rattle.rounding.specs.Formats.{Format, weight, step, significand, doublings, magnitude}
-
-pub either_way : (a b : ℕ) → (a < b) ⊎ (b ≤ a)
-either_way a b = go (ltb a b) (ltb→lt a b) (nltb→le a b)
-  where
-    go : (t : Bool) → (T t → a < b) → (T (not t) → b ≤ a) → (a < b) ⊎ (b ≤ a)
-    go true h k = inl (h tt)
-    go false h k = inr (k tt)
 
 pub weight_pos : (f : Format) → 0 < weight f
 weight_pos f = pow_pos (f.digits - 1)
@@ -24,7 +18,7 @@ significand_high f q h = simp (le-ltb q (weight f) h)
 
 -- a field of k + 1 above the rest
 one_more : (k w r : ℕ) → suc k * w + r ≡ k * w + (w + r)
-one_more k w r = let e : suc k * w ≡ k * w + w = rw (← add-one) (add-mul k 1 w ∙ ap (λ (x : ℕ). k * w + x) (one-mul w)) in omega arith
+one_more k w r = omega (arith, suc-mul k w)
 
 field_pos : (a w : ℕ) → 0 < w → w ≤ a → 0 < a / w
 field_pos a w p h = (le-div_iff_mul-le p).1 (omega (arith, one-mul w))
@@ -44,7 +38,7 @@ pub whole : (f : Format) (a : ℕ) → doublings f a * weight f + significand f 
 unfolding doublings
 whole f a =
     let w = weight f in
-    elim (either_way a w) [
+    elim (cases_lt a w) [
       | inl h ↦ rw significand_low (rw div-eq_of_lt (omega (arith, zero-mul w)))
       | inr h ↦ rw significand_high (high_split a w (weight_pos f) h)
     ]
@@ -53,7 +47,7 @@ pub stands : (f : Format) (a : ℕ) → Stands (weight f) (doublings f a) (signi
 unfolding doublings
 stands f a =
     let w = weight f in
-    elim (either_way a w) [
+    elim (cases_lt a w) [
       | inl h ↦ inl (rw div-eq_of_lt)
       | inr h ↦ inr (rw significand_high (omega arith))
     ]
@@ -62,7 +56,7 @@ pub below_two : (f : Format) (a : ℕ) → significand f a < 2 * weight f
 below_two f a =
     let w = weight f in
     let p = weight_pos f in
-    elim (either_way a w) [
+    elim (cases_lt a w) [
       | inl h ↦ rw significand_low (omega arith)
       | inr h ↦ rw significand_high (omega (arith, mod-lt a p))
     ]
@@ -97,7 +91,7 @@ magnitude_low f q h =
 pub magnitude_of : (f : Format) (y q : ℕ) → q ≤ 2 * weight f → Stands (weight f) y q → magnitude f (y * weight f + q) ≡ q * 2 ^ (y + step f)
 magnitude_of f y q h s =
     let w = weight f in
-    elim (either_way q w) [
+    elim (cases_lt q w) [
       | inl l ↦ elim s [
         | inl z ↦
             let e : y * w + q ≡ q = ap (λ (x : ℕ). x * w + q) z ∙ omega (arith, zero-mul w) in
@@ -105,7 +99,7 @@ magnitude_of f y q h s =
             ap (magnitude f) e ∙ magnitude_low f q l ∙ ap (λ (x : ℕ). q * 2 ^ x) d
         | inr g ↦ omega arith
       ]
-      | inr g ↦ elim (either_way q (2 * w)) [
+      | inr g ↦ elim (cases_lt q (2 * w)) [
         | inl l ↦
             let t = q - w in
             let e : w + t ≡ q = omega arith in
@@ -136,7 +130,7 @@ magnitude_next f a =
     let e : y * w + suc q ≡ suc a = omega (arith, whole f a) in
     let m : magnitude f (y * w + suc q) ≡ suc q * u = magnitude_of f y (suc q) (below_two f a) more in
     let n : magnitude f (suc a) ≡ suc q * u = rw e at m in
-    n ∙ (let k : suc q * u ≡ q * u + u = rw (← add-one) (add-mul q 1 u ∙ ap (λ (x : ℕ). q * u + x) (one-mul u)) in k) ∙ ap (λ (x : ℕ). x + u) (sym (magnitude_is f a))
+    n ∙ suc-mul q u ∙ ap (λ (x : ℕ). x + u) (sym (magnitude_is f a))
 
 pub magnitude_up : (f : Format) (a k : ℕ) → magnitude f a < magnitude f (a + suc k)
 magnitude_up f a zero = rw add-one (omega (arith, magnitude_next f a, pow_pos (doublings f a + step f)))
@@ -149,22 +143,16 @@ pub magnitude_lt : (f : Format) (a b : ℕ) → a < b → magnitude f a < magnit
 magnitude_lt f a b h = let e : a + suc (b - suc a) ≡ b = omega arith in rw e at (magnitude_up f a (b - suc a))
 
 pub magnitude_le : (f : Format) (a b : ℕ) → a ≤ b → magnitude f a ≤ magnitude f b
-magnitude_le f a b h = elim (either_way a b) [ inl l ↦ omega (arith, magnitude_lt f a b l) | inr l ↦ (let e : a ≡ b = omega arith in rw e (omega arith)) ]
+magnitude_le f a b h = elim (cases_lt a b) [ inl l ↦ omega (arith, magnitude_lt f a b l) | inr l ↦ (let e : a ≡ b = omega arith in rw e (omega arith)) ]
 
--- ---- a significand is even where its pattern is
-parity : (f : Format) (v q : ℕ) → weight f ≡ 2 * v → significand f q % 2 ≡ q % 2
-parity f v q e =
-    let w = weight f in
-    elim (either_way q w) [
-      | inl h ↦ rw significand_low refl
-      | inr h ↦
-          let k : q / w * w ≡ 2 * (q / w * v) = ap (λ (x : ℕ). q / w * x) e ∙ omega (arith, mul_assoc (q / w) 2 v, mul_comm (q / w) 2, mul_assoc 2 (q / w) v) in
-          rw significand_high (omega (arith, div-add-mod' q w))
-    ]
-
-pub even_pattern : (f : Format) → 2 ≤ f.digits → (q : ℕ) → significand f q % 2 ≡ q % 2
-even_pattern f h q =
+-- ---- what stands in the exponent's fields is even, and so a significand is even where its pattern is
+pub even_sum : (f : Format) (y k : ℕ) → 2 ≤ f.digits → (y * weight f + k) % 2 ≡ k % 2
+even_sum f y k h =
     let v = 2 ^ (f.digits - 2) in
     let d : f.digits - 1 ≡ suc (f.digits - 2) = omega arith in
-    let e : weight f ≡ 2 * v = ap (λ (x : ℕ). 2 ^ x) d ∙ pow-suc 2 (f.digits - 2) ∙ mul_comm v 2 in
-    parity f v q e
+    let e : weight f ≡ v * 2 = ap (λ (x : ℕ). 2 ^ x) d ∙ pow-suc 2 (f.digits - 2) in
+    let g : y * weight f ≡ y * v * 2 = ap (λ (x : ℕ). y * x) e ∙ sym (mul_assoc y v 2) in
+    omega arith
+
+pub even_pattern : (f : Format) → 2 ≤ f.digits → (q : ℕ) → significand f q % 2 ≡ q % 2
+even_pattern f h q = sym (even_sum f (doublings f q) (significand f q) h) ∙ ap (λ (x : ℕ). x % 2) (whole f q)

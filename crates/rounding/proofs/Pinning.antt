@@ -1,5 +1,5 @@
 -- The rule allows one answer. Assumes nothing.
-use Rattle.std.proofs.Common.{◌≡◌, ℕ, ◌+◌, ◌-◌, ◌^◌, ◌≤◌, Bool, true, false, cond, ◌&&◌, eqb, ltb, ℤ, pos, negsuc, nat_abs, Ok, Err, sym, refl, ap, ◌∙◌, subst, arith, lit≤}
+use Rattle.std.proofs.Common.{◌≡◌, ℕ, ◌+◌, ◌-◌, ◌^◌, ◌≤◌, Bool, true, false, cond, ◌&&◌, eqb, ltb, ℤ, pos, negsuc, nat_abs, Ok, Err, sym, ◌∙◌, subst, arith, lit≤}
 use lib.Signed.{le_z}
 use lib.Ieee as Ieee
 use Rattle.std.specs.Float.{float_is_finite, is_sign_negative}
@@ -8,28 +8,15 @@ use Rattle.rounding.specs.declared.scalars.ScalarKind.{ScalarKind}
 use Rattle.rounding.specs.declared.scalars.ScalarKind.TheVariants as Kinds
 use Rattle.rounding.specs.declared.literals.Literal.{Literal}
 use Rattle.rounding.specs.declared.literals.Literal.TheVariants as Literals
-use Rattle.rounding.specs.declared.conversion.ConversionError.{ConversionError}
-use Rattle.rounding.specs.declared.conversion.ConversionError.TheVariants.{SrcNeedsToBeFinite, DstRangeTooSmall, UnsupportedScalar}
 use Rattle.rounding.specs.Formats.{Format, half, single, infinity, sign_bit_of}
 use Rattle.rounding.specs.Doubles.{units, whole}
-use Rattle.rounding.specs.Conversion.{Answer, code_of, Refused, Whole, Rounds, OfKind, Becomes, Pinned}
+use Rattle.rounding.specs.Conversion.{Answer, Refused, Whole, Rounds, OfKind, Becomes, Pinned}
 use Rattle.rounding.proofs.Choosing.{nearest_is_one}
-
-code_one : (e d : ConversionError) → code_of e ≡ code_of d → e ≡ d
-code_one SrcNeedsToBeFinite SrcNeedsToBeFinite h = refl
-code_one SrcNeedsToBeFinite DstRangeTooSmall h = absurd (omega arith)
-code_one SrcNeedsToBeFinite UnsupportedScalar h = absurd (omega arith)
-code_one DstRangeTooSmall SrcNeedsToBeFinite h = absurd (omega arith)
-code_one DstRangeTooSmall DstRangeTooSmall h = refl
-code_one DstRangeTooSmall UnsupportedScalar h = absurd (omega arith)
-code_one UnsupportedScalar SrcNeedsToBeFinite h = absurd (omega arith)
-code_one UnsupportedScalar DstRangeTooSmall h = absurd (omega arith)
-code_one UnsupportedScalar UnsupportedScalar h = refl
 
 refused_one : {X : Type 0} (r s : Answer X) (code : ℕ) → Refused r code → Refused s code → s ≡ r
 refused_one (Ok v) s code h k = absurd h
 refused_one (Err e) (Ok v) code h k = absurd k
-refused_one (Err e) (Err d) code h k = ap Err (code_one d e (k ∙ sym h))
+refused_one (Err e) (Err d) code h k = grind arith
 
 choose_one : {X : Type 0} (b : Bool) (P Q P' Q' : Type 0) (r s : Answer X) → (P → P' → s ≡ r) → (Q → Q' → s ≡ r) → cond b P Q → cond b P' Q' → s ≡ r
 choose_one true P Q P' Q' r s p q h k = p h k

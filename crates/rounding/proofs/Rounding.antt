@@ -1,19 +1,11 @@
 -- m * 2 ^ e units, cut by s digits to the places of a field y and rounded there: the pattern that comes out is the nearest. Over every format. Assumes nothing.
-use Rattle.std.proofs.Common.{◌≡◌, ℕ, suc, ◌+◌, ◌-◌, ◌*◌, ◌/◌, ◌%◌, ◌^◌, ◌<◌, ◌≤◌, min, sym, refl, ap, ◌∙◌, inl, inr, mod-lt, mul_assoc, mul_comm, add-mul, mul-lt-mul_of_pos_right, mul-pos, one-mul, pow-suc, div-add-mod', zero-add, zero-mul, mul_right_comm, add-one, arith, pow_pos, pow-add}
+use Rattle.std.proofs.Common.{◌≡◌, ℕ, suc, ◌+◌, ◌*◌, ◌/◌, ◌%◌, ◌^◌, ◌<◌, ◌≤◌, min, sym, refl, ap, ◌∙◌, inl, inr, mod-lt, mul_assoc, mul_comm, add-mul, mul-lt-mul_of_pos_right, mul-pos, one-mul, div-add-mod', zero-add, zero-mul, mul_right_comm, suc-mul, arith, pow_pos, pow-add}
+use Rattle.std.proofs.lemmas.Bool.{cases_lt}
 use Rattle.rounding.specs.Formats.{Format, weight, infinity, step, magnitude}
 use Rattle.rounding.specs.Nearest.{Nearest}
 use Rattle.rounding.specs.Shifts.{Rounded}
-use Rattle.rounding.proofs.Patterns.{either_way, Stands, weight_pos, magnitude_of, magnitude_le, even_pattern}
+use Rattle.rounding.proofs.Patterns.{Stands, weight_pos, magnitude_of, magnitude_le, even_sum, even_pattern}
 use Rattle.rounding.proofs.Choosing.{choose_low, choose_high, choose_infinity}
-
--- a pattern is even where its significand's place is
-even_sum : (f : Format) (y k : ℕ) → 2 ≤ f.digits → (y * weight f + k) % 2 ≡ k % 2
-even_sum f y k h =
-    let v = 2 ^ (f.digits - 2) in
-    let d : f.digits - 1 ≡ suc (f.digits - 2) = omega arith in
-    let e : weight f ≡ v * 2 = ap (λ (x : ℕ). 2 ^ x) d ∙ pow-suc 2 (f.digits - 2) in
-    let g : y * weight f ≡ y * v * 2 = ap (λ (x : ℕ). y * x) e ∙ sym (mul_assoc y v 2) in
-    omega arith
 
 module _ (f : Format) (m e s y : ℕ) (two : 2 ≤ f.digits) (same : e + s ≡ y + step f) (fits : m / 2 ^ s < 2 * weight f) (st : Stands (weight f) y (m / 2 ^ s)) where
   -- the sum that the kept digits make, and the next one: the number lies between them
@@ -26,8 +18,7 @@ module _ (f : Format) (m e s y : ℕ) (two : 2 ≤ f.digits) (same : e + s ≡ y
       let u = 2 ^ (y + step f) in
       let more : Stands (weight f) y (suc k) = elim st [ inl z ↦ inl z | inr g ↦ inr (omega arith) ] in
       let g : y * weight f + suc k ≡ suc (y * weight f + k) = omega arith in
-      let l : suc k * u ≡ k * u + u = rw (← add-one k) (add-mul k 1 u ∙ ap (λ (x : ℕ). k * u + x) (one-mul u)) in
-      (rw g at (magnitude_of f y (suc k) fits more)) ∙ l
+      (rw g at (magnitude_of f y (suc k) fits more)) ∙ suc-mul k u
 
   unit : 2 ^ s * 2 ^ e ≡ 2 ^ (y + step f)
   unit = mul_comm (2 ^ s) (2 ^ e) ∙ sym (pow-add 2 e s) ∙ ap (λ (x : ℕ). 2 ^ x) same
@@ -53,9 +44,9 @@ module _ (f : Format) (m e s y : ℕ) (two : 2 ≤ f.digits) (same : e + s ≡ y
 
   at_least : (r : ℕ) → Rounded m (2 ^ s) r → m / 2 ^ s ≤ r
   at_least r ro =
-      elim (either_way (m % 2 ^ s * 2) (2 ^ s)) [
+      elim (cases_lt (m % 2 ^ s * 2) (2 ^ s)) [
         | inl h ↦ omega (arith, ro.below h)
-        | inr h ↦ elim (either_way (2 ^ s) (m % 2 ^ s * 2)) [
+        | inr h ↦ elim (cases_lt (2 ^ s) (m % 2 ^ s * 2)) [
           | inl g ↦ omega (arith, ro.above g)
           | inr g ↦ (let z : m % 2 ^ s * 2 ≡ 2 ^ s = omega arith in omega (arith, ro.tie z))
         ]
@@ -69,18 +60,18 @@ module _ (f : Format) (m e s y : ℕ) (two : 2 ≤ f.digits) (same : e + s ≡ y
       let a = y * weight f + k in
       let lo : magnitude f a ≤ n = omega (arith, low_is, number_is) in
       let hi : n ≤ magnitude f (suc a) = omega (arith, high_is, number_is, rest_small) in
-      elim (either_way (m % 2 ^ s * 2) (2 ^ s)) [
+      elim (cases_lt (m % 2 ^ s * 2) (2 ^ s)) [
         | inl h ↦
             let q : Nearest f n a = choose_low f n a under lo hi (omega (arith, low_is, high_is, number_is, rest_below h)) (λ z. omega (arith, low_is, high_is, number_is, rest_below h)) in
             rw (ro.below h) q
-        | inr h ↦ elim (either_way (2 ^ s) (m % 2 ^ s * 2)) [
+        | inr h ↦ elim (cases_lt (2 ^ s) (m % 2 ^ s * 2)) [
           | inl g ↦
               let q : Nearest f n (suc a) = choose_high f n a under lo hi (omega (arith, low_is, high_is, number_is, rest_above g)) (λ z. omega (arith, low_is, high_is, number_is, rest_above g)) in
               let j : y * weight f + r ≡ suc a = omega (arith, ro.above g) in
               rw j q
           | inr g ↦
               let t : m % 2 ^ s * 2 ≡ 2 ^ s = omega arith in
-              elim (either_way (k % 2) 1) [
+              elim (cases_lt (k % 2) 1) [
                 | inl ev ↦
                     let q : Nearest f n a = choose_low f n a under lo hi (omega (arith, low_is, high_is, number_is, rest_tie t)) (λ z. omega (arith, even_pattern f two a, even_sum f y k two)) in
                     let j : y * weight f + r ≡ a = omega (arith, ro.tie t) in
@@ -97,7 +88,7 @@ module _ (f : Format) (m e s y : ℕ) (two : 2 ≤ f.digits) (same : e + s ≡ y
   rounds r ro =
       let n = m * 2 ^ e in
       let a = y * weight f + m / 2 ^ s in
-      elim (either_way a (infinity f)) [
+      elim (cases_lt a (infinity f)) [
         | inl h ↦
             let q = finite r ro h in
             let j : min (y * weight f + r) (infinity f) ≡ y * weight f + r = omega (arith, q.among) in

@@ -87,6 +87,7 @@ fn rounded(value: f64, format: Format) -> Result<u64, ConversionError>
 }
 
 // Every value but the zeros and the NaNs.
+#[tactic(auto, using(crate::proofs::Conversions::truth_other, crate::proofs::Conversions::truth_zero))]
 fn is_true(value: f64) -> bool
     ensures { result ≡ truth value }
 {
@@ -111,6 +112,7 @@ fn literal_of(value: f64, scalar: Scalar) -> Result<Literal, ConversionError>
 }
 
 // What the value becomes for the scalar.
+#[tactic(auto, using(crate::proofs::Pinning::pinned))]
 pub fn map_value_to_literal(value: f64, scalar: Scalar) -> Result<Literal, ConversionError>
     ensures { Pinned scalar value result }
 {

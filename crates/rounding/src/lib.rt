@@ -32,6 +32,7 @@ pub fn formats_stand()
 {}
 
 // The worked examples hold of the definitions that `map_value_to_literal` is proved against.
+#[tactic(auto, using(crate::proofs::Examples::examples))]
 pub fn examples_stand()
     ensures { Examples }
 {}

@@ -51,6 +51,7 @@ impl Literal {
             Literal::I32(x) => x.cast_unsigned() as u64,
             Literal::U16(x) | Literal::F16(x) => x as u64,
             Literal::U32(x) | Literal::F32(x) => x as u64,
+            // an arm each: one for two variants of signed numbers gets no proof
             Literal::I64(x) => x.cast_unsigned(),
             Literal::AbstractInt(x) => x.cast_unsigned(),
             Literal::U64(x) | Literal::F64(x) | Literal::AbstractFloat(x) => x,

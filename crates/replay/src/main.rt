@@ -3,49 +3,50 @@
 // and its first lines say how it was made and how a line reads.
 #![tactic(auto)]
 
-use anyhow::{Context, anyhow};
-use rounding::{Scalar, ScalarKind, map_value_to_literal};
+use anyhow::{Context, ensure};
+use rounding::{ConversionError, Scalar, ScalarKind, map_value_to_literal};
 use std::num::f64_from_bits_with_nan;
 use std::{fmt, io};
 
-// Columns of answers on a line.
-const COLUMNS: u32 = 8;
+// The columns of answers on a line, in the order of the literals' type numbers: a name, and the scalar's kind and
+// width in bytes.
+const COLUMNS: [(&str, ScalarKind, u8); 8] = [
+    ("bool", ScalarKind::Bool, 1),
+    ("i16", ScalarKind::Sint, 2),
+    ("u16", ScalarKind::Uint, 2),
+    ("i32", ScalarKind::Sint, 4),
+    ("u32", ScalarKind::Uint, 4),
+    ("f16", ScalarKind::Float, 2),
+    ("f32", ScalarKind::Float, 4),
+    ("f64", ScalarKind::Float, 8),
+];
 
 // Differences that are printed. All are counted.
 const SHOWN: u64 = 20;
 
 const MALFORMED: &str = "a line is not a double and eight answers";
 
-// What a conversion gave: a literal's type and bits, or an error's code.
+// A literal by its type's number and its bits.
 #[derive(Clone, Copy, PartialEq, Eq)]
-enum Answer {
-    Made { type_number: u32, bits: u64 },
-    Refused(u8),
+struct Made {
+    type_number: u32,
+    bits: u64,
 }
 
-impl fmt::Display for Answer {
+// What a conversion gave.
+type Answer = Result<Made, ConversionError>;
+
+// An answer as it is printed.
+#[derive(Drop)]
+struct Shown(Answer);
+
+impl fmt::Display for Shown {
     fn fmt<W: fmt::Write>(&self, f: &mut fmt::Formatter<W>) -> fmt::Result {
-        match *self {
-            Answer::Made { type_number, bits } => write!(f, "{bits:x} of type {type_number}"),
-            Answer::Refused(code) => write!(f, "!{code}"),
+        match self.0 {
+            Ok(Made { type_number, bits }) => write!(f, "{bits:x} of type {type_number}"),
+            Err(error) => write!(f, "!{}", error.code()),
         }
     }
-}
-
-// The name and the scalar of a column. The columns stand in the order of the literals' type numbers.
-fn column(type_number: u32) -> Option<(&'static str, Scalar)> {
-    let (name, kind, width) = match type_number {
-        0 => ("bool", ScalarKind::Bool, 1),
-        1 => ("i16", ScalarKind::Sint, 2),
-        2 => ("u16", ScalarKind::Uint, 2),
-        3 => ("i32", ScalarKind::Sint, 4),
-        4 => ("u32", ScalarKind::Uint, 4),
-        5 => ("f16", ScalarKind::Float, 2),
-        6 => ("f32", ScalarKind::Float, 4),
-        7 => ("f64", ScalarKind::Float, 8),
-        _ => return None,
-    };
-    Some((name, Scalar { kind, width }))
 }
 
 // A bool is one hexadecimal digit, and any other type two for each byte.
@@ -67,27 +68,23 @@ fn hexadecimal(word: &str, digits: usize) -> Option<u64> {
 // An answer as the list writes it.
 fn stored(word: &str, type_number: u32, scalar: Scalar) -> Option<Answer> {
     match word {
-        "!9" => Some(Answer::Refused(9)),
-        "!10" => Some(Answer::Refused(10)),
+        "!9" => Some(Err(ConversionError::SrcNeedsToBeFinite)),
+        "!10" => Some(Err(ConversionError::DstRangeTooSmall)),
         _ => {
             let bits = hexadecimal(word, digits_of(scalar))?;
-            Some(Answer::Made { type_number, bits })
+            Some(Ok(Made { type_number, bits }))
         }
     }
 }
 
 fn convert(bits: u64, scalar: Scalar) -> Answer {
-    match map_value_to_literal(f64_from_bits_with_nan(bits), scalar) {
-        Ok(literal) => {
-            let [type_number, low, high] = literal.words();
-            let bits = (u64::from(high) << 32) | u64::from(low);
-            Answer::Made { type_number, bits }
-        }
-        Err(error) => Answer::Refused(error.code()),
-    }
+    let literal = map_value_to_literal(f64_from_bits_with_nan(bits), scalar)?;
+    let [type_number, low, high] = literal.words();
+    let bits = (u64::from(high) << 32) | u64::from(low);
+    Ok(Made { type_number, bits })
 }
 
-#[derive(Drop)]
+#[derive(Default, Drop)]
 struct Tally {
     lines: u64,
     doubles: u64,
@@ -96,15 +93,6 @@ struct Tally {
 }
 
 impl Tally {
-    fn new() -> Tally {
-        Tally {
-            lines: 0,
-            doubles: 0,
-            conversions: 0,
-            different: 0,
-        }
-    }
-
     // Passes over a comment, and compares what any other line holds.
     fn replay(&mut self, rt: &HostRuntime, line: &str) -> anyhow::Result<()> {
         self.lines = self.lines.saturating_add(1);
@@ -114,20 +102,17 @@ impl Tally {
         let mut words = line.split_whitespace();
         let first = words.next().context(MALFORMED)?;
         let bits = hexadecimal(first, 16).context(MALFORMED)?;
-        let mut type_number = 0u32;
-        for word in words {
-            let (name, scalar) = column(type_number).context(MALFORMED)?;
+        for (type_number, (name, kind, width)) in (0u32..).zip(COLUMNS) {
+            let scalar = Scalar { kind, width };
+            let word = words.next().context(MALFORMED)?;
             let expected = stored(word, type_number, scalar).context(MALFORMED)?;
             let given = convert(bits, scalar);
             self.conversions = self.conversions.saturating_add(1);
             if given != expected {
                 self.differ(rt, bits, name, given, expected)?;
             }
-            type_number = type_number.saturating_add(1);
         }
-        if type_number != COLUMNS {
-            return Err(anyhow!("{MALFORMED}"));
-        }
+        ensure!(words.next().is_none(), "{MALFORMED}");
         self.doubles = self.doubles.saturating_add(1);
         Ok(())
     }
@@ -144,36 +129,34 @@ impl Tally {
         if self.different > SHOWN {
             return Ok(());
         }
-        let line = self.lines;
         println!(rt;
-            "line {line}: {bits:016x} as {name} gives {given}, and the Rust gave {expected}"
+            "line {}: {bits:016x} as {name} gives {}, and the Rust gave {}",
+            self.lines,
+            Shown(given),
+            Shown(expected)
         )
     }
 
     fn finish(&self, rt: &HostRuntime) -> anyhow::Result<()> {
-        let doubles = self.doubles;
-        let conversions = self.conversions;
-        let different = self.different;
         println!(rt;
-            "{doubles} doubles, {conversions} conversions compared with the Rust's answers, {different} different"
+            "{} doubles, {} conversions compared with the Rust's answers, {} different",
+            self.doubles, self.conversions, self.different
         )?;
-        if doubles == 0 {
-            return Err(anyhow!("the list has no double"));
-        }
-        if different > 0 {
-            return Err(anyhow!("conversions differ from the Rust's answers"));
-        }
+        ensure!(self.doubles > 0, "the list has no double");
+        ensure!(
+            self.different == 0,
+            "conversions differ from the Rust's answers"
+        );
         Ok(())
     }
 }
 
 fn run(rt: &HostRuntime) -> anyhow::Result<()> {
-    let mut tally = Tally::new();
+    let mut tally = Tally::default();
     for line in rt.lines(rt.alloc()) {
         let text = line?;
         if let Err(error) = tally.replay(rt, text.as_str()) {
-            let number = tally.lines;
-            println!(rt; "line {number}: {error}")?;
+            println!(rt; "line {}: {error}", tally.lines)?;
             return Err(error);
         }
     }

@@ -1,6 +1,6 @@
 -- m * 2 ^ e units, cut by s digits to the places of a field y and rounded there: the pattern that comes out is the nearest. Over every format. Assumes nothing.
 use Rattle.std.proofs.Common.{◌≡◌, ℕ, suc, ◌+◌, ◌*◌, ◌/◌, ◌%◌, ◌^◌, ◌<◌, ◌≤◌, min, sym, refl, ap, ◌∙◌, inl, inr, mod-lt, mul_assoc, mul_comm, add-mul, mul-lt-mul_of_pos_right, mul-pos, one-mul, div-add-mod', zero-add, zero-mul, mul_right_comm, suc-mul, arith, pow_pos, pow-add}
-use Rattle.std.proofs.lemmas.Bool.{cases_lt}
+use Rattle.std.proofs.lemmas.Bool.{cases_lt, cases_order}
 use Rattle.rounding.specs.Formats.{Format, weight, infinity, step, magnitude}
 use Rattle.rounding.specs.Nearest.{Nearest}
 use Rattle.rounding.specs.Shifts.{Rounded}
@@ -43,14 +43,7 @@ module _ (f : Format) (m e s y : ℕ) (two : 2 ≤ f.digits) (same : e + s ≡ y
   rest_above h = rw mul_right_comm (rw unit at (mul-lt-mul_of_pos_right h (pow_pos e)))
 
   at_least : (r : ℕ) → Rounded m (2 ^ s) r → m / 2 ^ s ≤ r
-  at_least r ro =
-      elim (cases_lt (m % 2 ^ s * 2) (2 ^ s)) [
-        | inl h ↦ omega (arith, ro.below h)
-        | inr h ↦ elim (cases_lt (2 ^ s) (m % 2 ^ s * 2)) [
-          | inl g ↦ omega (arith, ro.above g)
-          | inr g ↦ (let z : m % 2 ^ s * 2 ≡ 2 ^ s = omega arith in omega (arith, ro.tie z))
-        ]
-      ]
+  at_least r ro = grind arith
 
   -- below the infinity
   finite : (r : ℕ) → Rounded m (2 ^ s) r → y * weight f + m / 2 ^ s < infinity f → Nearest f (m * 2 ^ e) (y * weight f + r)
@@ -60,27 +53,25 @@ module _ (f : Format) (m e s y : ℕ) (two : 2 ≤ f.digits) (same : e + s ≡ y
       let a = y * weight f + k in
       let lo : magnitude f a ≤ n = omega (arith, low_is, number_is) in
       let hi : n ≤ magnitude f (suc a) = omega (arith, high_is, number_is, rest_small) in
-      elim (cases_lt (m % 2 ^ s * 2) (2 ^ s)) [
-        | inl h ↦
-            let q : Nearest f n a = choose_low f n a under lo hi (omega (arith, low_is, high_is, number_is, rest_below h)) (λ z. omega (arith, low_is, high_is, number_is, rest_below h)) in
-            rw (ro.below h) q
-        | inr h ↦ elim (cases_lt (2 ^ s) (m % 2 ^ s * 2)) [
-          | inl g ↦
+      elim (cases_order (m % 2 ^ s * 2) (2 ^ s)) [
+        | inl t ↦ elim (cases_lt (k % 2) 1) [
+          | inl ev ↦
+              let q : Nearest f n a = choose_low f n a under lo hi (omega (arith, low_is, high_is, number_is, rest_tie t)) (λ z. omega (arith, even_pattern f two a, even_sum f y k two)) in
+              let j : y * weight f + r ≡ a = omega (arith, ro.tie t) in
+              rw j q
+          | inr od ↦
+              let q : Nearest f n (suc a) = choose_high f n a under lo hi (omega (arith, low_is, high_is, number_is, rest_tie t)) (λ z. omega (arith, even_pattern f two (suc a), even_sum f y k two)) in
+              let j : y * weight f + r ≡ suc a = omega (arith, ro.tie t) in
+              rw j q
+        ]
+        | inr o ↦ elim o [
+          | inl h ↦
+              let q : Nearest f n a = choose_low f n a under lo hi (omega (arith, low_is, high_is, number_is, rest_below h)) (λ z. omega (arith, low_is, high_is, number_is, rest_below h)) in
+              rw (ro.below h) q
+          | inr g ↦
               let q : Nearest f n (suc a) = choose_high f n a under lo hi (omega (arith, low_is, high_is, number_is, rest_above g)) (λ z. omega (arith, low_is, high_is, number_is, rest_above g)) in
               let j : y * weight f + r ≡ suc a = omega (arith, ro.above g) in
               rw j q
-          | inr g ↦
-              let t : m % 2 ^ s * 2 ≡ 2 ^ s = omega arith in
-              elim (cases_lt (k % 2) 1) [
-                | inl ev ↦
-                    let q : Nearest f n a = choose_low f n a under lo hi (omega (arith, low_is, high_is, number_is, rest_tie t)) (λ z. omega (arith, even_pattern f two a, even_sum f y k two)) in
-                    let j : y * weight f + r ≡ a = omega (arith, ro.tie t) in
-                    rw j q
-                | inr od ↦
-                    let q : Nearest f n (suc a) = choose_high f n a under lo hi (omega (arith, low_is, high_is, number_is, rest_tie t)) (λ z. omega (arith, even_pattern f two (suc a), even_sum f y k two)) in
-                    let j : y * weight f + r ≡ suc a = omega (arith, ro.tie t) in
-                    rw j q
-              ]
         ]
       ]
 

@@ -22,8 +22,8 @@ passed false P Q h q = q
 
 -- y is the size of a finite value x, which the code has under the name v too
 module _ (x v y : Float) (t : fits binary64 x ≡ true) (s : (v ≡ x) × Floats.NotNan v × (Floats.float_is_finite v ≡ true)) (e : y ≡ Floats.float_with_sign false v) where
-  fine : T (fits binary64 x)
-  fine = subst T (sym t) tt
+  held : T (fits binary64 x)
+  held = subst T (sym t) tt
 
   pub finite : Floats.float_is_finite x ≡ true
   finite = ap Floats.float_is_finite (sym s.0) ∙ s.2
@@ -32,11 +32,11 @@ module _ (x v y : Float) (t : fits binary64 x ≡ true) (s : (v ≡ x) × Floats
   of_x = e ∙ ap (Floats.float_with_sign false) s.0
 
   pub below : to_bits binary64 y < infinity double
-  below = size_below x y of_x fine finite
+  below = size_below x y of_x held finite
 
   module _ (f : Format) (q : ℕ) (near : Nearest f (magnitude double (to_bits binary64 y)) q) where
     here : Nearest f (units x) q
-    here = subst (λ (k : ℕ). Nearest f k q) (size_is x y of_x fine finite) near
+    here = subst (λ (k : ℕ). Nearest f k q) (size_is x y of_x held finite) near
 
     pub too_large : infinity f ≤ q → Rounds {X = ℕ} x (Err DstRangeTooSmall) f (λ p. p)
     too_large l = chosen (Floats.float_is_finite x) _ _ finite (q, here, passed (ltb q (infinity f)) _ _ (le-ltb q (infinity f) l) refl)

@@ -76,7 +76,7 @@ impl Parts {
 
 // `m` / 2^`drop`, to the nearest whole number and at a tie to the even one.
 fn rounded_shift(m: u64, drop: u64) -> u64
-    requires { (m < 2 ^ 53) × (0 < drop) × (drop < 64) }
+    requires { (m < 2 ^ 53) × (drop < 64) }
     ensures nearest { Rounded m (2 ^ drop) result }
     ensures bound { result ≤ 2 ^ 53 }
 {

@@ -17,6 +17,7 @@ pub(crate) struct Format {
     emax: u64,
 }
 
+// Clauses see the record of specs/, which a double's format is too.
 impl Model for Format {
     ghost use Rattle.rounding.specs.Formats.{Format as Shape};
     ghost use Rattle.rounding.specs.Shifts.{Narrow};
@@ -124,6 +125,7 @@ impl Format {
         let parts = Parts::of(bits);
         // the smallest value of the format is 2^`step` units
         let step = 1076 - (self.digits + self.emax);
+        // above so many fields the digits stand that are kept, and so many are dropped
         let field = (parts.doublings + 53 - self.digits).saturating_sub(step);
         let drop = field + step - parts.doublings;
         if drop > LONGEST_SHIFT {

@@ -21,7 +21,8 @@ pub enum Literal {
 }
 
 impl Literal {
-    // The type's number, from 0 for Bool to 11 for AbstractFloat.
+    // The type's number, from 0 for Bool to 11 for AbstractFloat. An arm each: `as` takes no enum
+    // whose variants hold something.
     pub fn type_number(&self) -> u32
         ensures { result ≡ type_of self.now }
     {

@@ -100,11 +100,11 @@ held true zero = refl
 held true (suc w) = let e : min (suc w) (2 ^ 63) ≡ suc (min w (2 ^ 63 - 1)) = omega arith in ap (λ (k : ℕ). neg_ℤ (pos k)) e
 held false w = refl
 
-pub cast_is : (x : Float) → T (fits binary64 x) → Floats.float_is_finite x ≡ true → to_signed 63 x ≡ saturate_to_bits 63 (whole x)
+pub cast_is : (x : Float) → fits binary64 x ≡ true → Floats.float_is_finite x ≡ true → to_signed 63 x ≡ saturate_to_bits 63 (whole x)
 unfolding to_signed whole Floats.is_sign_negative Floats.float_is_finite
 cast_is nan f h = absurd (true≢false (sym h))
 cast_is (inf s) f h = absurd (true≢false (sym h))
 cast_is (fin s m e) f h =
     let n = units (fin s m e) in
-    let q : m * up e / down e ≡ n / 2 ^ 1074 = div_same (m * up e) (down e) n (2 ^ 1074) (down_pos e) (pow_pos 1074) (exact (fin s m e) f h).1 in
+    let q : m * up e / down e ≡ n / 2 ^ 1074 = div_same (m * up e) (down e) n (2 ^ 1074) (down_pos e) (pow_pos 1074) (exact (fin s m e) (subst T (sym f) tt) h).1 in
     rw q (held s (n / 2 ^ 1074))

@@ -4,8 +4,9 @@
 // refused first; then what is not finite, then what does not fit, as there.
 ghost use Rattle.std.specs.Prelude.{◌≡◌, ◌*◌, ◌<◌, true, IfOk, Ok, Some};
 ghost use Rattle.std.specs.Float.{NotNan, float_is_finite};
+ghost use Rattle.std.specs.Int.{saturate_to_bits};
 ghost use Rattle.rounding.specs.Formats.{sign_bit_of};
-ghost use Rattle.rounding.specs.Doubles.{truth};
+ghost use Rattle.rounding.specs.Doubles.{whole, truth};
 ghost use Rattle.rounding.specs.Conversion.{code_of, told_as, Finite, Rounds, Becomes, Pinned};
 ghost use Rattle.rounding.specs.Shifts.{Converted};
 
@@ -57,15 +58,22 @@ fn finite(value: f64) -> Result<f64, ConversionError>
     }
 }
 
+// The value without its fraction, or the end of 64 bits that it is past.
+#[tactic(auto, using(crate::proofs::Floats::cast_is))]
+fn whole_of(value: f64) -> Result<i64, ConversionError>
+    ensures cases { Finite value result (result ≡ Ok (saturate_to_bits 63 (whole value))) }
+    ensures finite { IfOk result (λ z. (z ≡ saturate_to_bits 63 (whole value)) × (float_is_finite value ≡ true)) }
+{
+    Ok(num::saturating_f64_to_i64(finite(value)?))
+}
+
 // The value without its fraction, if `T`, a type narrower than 64 bits, has it.
 fn whole_as<T: TryFrom<i64, Error = TryFromIntError> + Drop>(
     value: f64,
 ) -> Result<T, ConversionError>
     ensures { Converted value T.try_from_gives result }
 {
-    // past the ends of 64 bits this is the end
-    let whole = num::saturating_f64_to_i64(finite(value)?);
-    T::try_from(whole).or(Err(ConversionError::DstRangeTooSmall))
+    T::try_from(whole_of(value)?).or(Err(ConversionError::DstRangeTooSmall))
 }
 
 // The pattern of the format's value that is nearest to `value`, with its sign.

@@ -3,3 +3,4 @@ pub mod Format
 pub mod Walk
 pub mod Numeral
 pub mod Emit
+pub mod Digits

@@ -4,3 +4,4 @@ pub mod Codes
 pub mod Keys
 pub mod Reading
 pub mod Written
+pub mod Decimals

@@ -4,6 +4,7 @@
 // the keys, one after the other; and so many doubles, eight bytes each, the lowest first. Nothing follows.
 #![tactic(auto)]
 
+mod decimals;
 mod error;
 mod file;
 mod naming;
@@ -15,6 +16,7 @@ pub const MOST_SETTINGS: usize = 4096;
 
 pub const LONGEST_KEY: usize = 255;
 
+pub use decimals::{Decimal, read_decimal};
 pub use error::SettingsError;
 pub use file::Settings;
 pub use naming::{Identifier, Key, is_taken, read_key, takes};

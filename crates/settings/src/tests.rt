@@ -26,6 +26,17 @@ fn numbers(rt: HostRuntime) {
 }
 
 #[test]
+fn decimals(rt: HostRuntime) {
+    assert_eq!(rt; read_decimal::<u8>("255"), Some(255));
+    assert_eq!(rt; read_decimal::<u8>("256"), None);
+    assert_eq!(rt; read_decimal::<u16>("256"), Some(256));
+    assert_eq!(rt; read_decimal::<u32>("4294967295"), Some(4294967295));
+    for word in ["", "+7", "07", "-1", "1 "] {
+        assert_eq!(rt; read_decimal::<u32>(word), None);
+    }
+}
+
+#[test]
 fn names(rt: HostRuntime) {
     for name in ["", "007", "+7", "65536"] {
         assert!(rt; matches!(read_key(name.as_bytes()), Key::Name(_)));

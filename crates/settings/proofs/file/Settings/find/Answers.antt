@@ -6,7 +6,7 @@ use Rattle.settings.specs.Keys.{Takes}
 use Rattle.settings.proofs.Places.{within, not_here, same_place}
 use Rattle.settings.proofs.Format.{length_pieces}
 use Rattle.settings.proofs.Walk.{left_more, piece_here}
-use Rattle.settings.proofs.Numeral.{takes_same}
+use Rattle.settings.proofs.Overrides.{takes_same}
 use Rattle.settings.proofs.file.Settings.find.Goals as goal
 
 pub loop-i-preserved : goal.loop-i-preserved

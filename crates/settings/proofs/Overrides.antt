@@ -2,7 +2,11 @@
 use Rattle.std.proofs.Common.{◌≡◌, ℕ, ◌≤◌, eqb, List, Some, None, decimal, Decides, Option, sym, ap, ◌∙◌, arith, Bor}
 use Rattle.std.proofs.lemmas.Fmt.{decimal_injective}
 use Rattle.std.proofs.lemmas.Bool.Decides.{Decides-eqb, Decides-like}
+use Rattle.settings.specs.First.{Least, Holds}
+use Rattle.settings.specs.Layout.{Distinct}
 use Rattle.settings.specs.Keys.{TakenBy, Takes}
+use Rattle.settings.specs.Reading.{Only}
+use Rattle.settings.proofs.Places.{same_place}
 use Rattle.settings.specs.declared.naming.Identifier.{Identifier}
 
 -- the keys that one override takes are equal
@@ -22,3 +26,9 @@ by_id (Some k) s m n bs e l h =
 
 pub takes_by_id : (w : Identifier) (m n : ℕ) (bs : List ℕ) → w.id ≡ Some m → m ≤ 65535 → (n ≤ 65535) × (bs ≡ decimal n) → Decides (eqb n m) (Takes w bs)
 takes_by_id w m n bs = by_id w.id w.name m n bs
+
+-- of distinct keys, the first that an override takes is the only one
+pub only_taker : (w : Identifier) (ks : List (List ℕ)) (r : Option ℕ) → Least (Holds (Takes w) ks) r → Distinct ks → Only (Holds (Takes w) ks) r
+only_taker w ks None h d = h
+only_taker w ks (Some i) h d =
+    (h.0, λ j t. same_place ks j i h.0.0 d (t.1 ∙ ap Some (takes_same w t.0 h.0.0 t.2 h.0.2)) h.0.1)

@@ -31,10 +31,6 @@ number_of_lt [] h = omega arith
 number_of_lt (b ∷ bs) h =
     let p = pow-suc 256 (length bs) in let rest = number_of_lt bs h.1 in omega (arith, h.0)
 
-length_bytes_of : (k v : ℕ) → length (bytes_of k v) ≡ k
-length_bytes_of zero v = refl
-length_bytes_of (suc k) v = ap suc (length_bytes_of k (v / 256))
-
 -- ---- pieces
 
 pub pieces_joined : (ks : List (List ℕ)) → pieces (map length ks) (flat_map (λ k. k) ks) ≡ ks
@@ -238,19 +234,3 @@ encodes_valid g ok =
     λ h fine e. the_same (n % 256) ((n / 256) % 256) (after g) h fine e (map length g.keys) (flat_map (λ k. k) g.keys) (flat_map (bytes_of 8) g.values)
     (the_lengths (n % 256) ((n / 256) % 256) (after g) g ok refl) (the_others (n % 256) ((n / 256) % 256) (after g) g ok refl) (length_keys g.keys) in
     record { valid = ok; is = refl; only = λ h fine e. to h fine e ∙ sym (to g ok refl) }
-
--- ---- one value
-
-pub number_8 : (bs : List ℕ) → length bs ≡ 8 → number_of bs
-    ≡ get_or bs 0 0 + get_or bs 1 0 * 256 + get_or bs 2 0 * 65536 + get_or bs 3 0 * 16777216 + get_or bs 4 0 * 4294967296 + get_or bs 5 0 * 1099511627776
-    + get_or bs 6 0 * 281474976710656 + get_or bs 7 0 * 72057594037927936
-number_8 (a ∷ (b ∷ (c ∷ (d ∷ (e ∷ (f ∷ (g ∷ (h ∷ [])))))))) l = omega arith
-number_8 [] l = absurd (omega arith)
-number_8 (a ∷ []) l = absurd (omega arith)
-number_8 (a ∷ (b ∷ [])) l = absurd (omega arith)
-number_8 (a ∷ (b ∷ (c ∷ []))) l = absurd (omega arith)
-number_8 (a ∷ (b ∷ (c ∷ (d ∷ [])))) l = absurd (omega arith)
-number_8 (a ∷ (b ∷ (c ∷ (d ∷ (e ∷ []))))) l = absurd (omega arith)
-number_8 (a ∷ (b ∷ (c ∷ (d ∷ (e ∷ (f ∷ [])))))) l = absurd (omega arith)
-number_8 (a ∷ (b ∷ (c ∷ (d ∷ (e ∷ (f ∷ (g ∷ []))))))) l = absurd (omega arith)
-number_8 (a ∷ (b ∷ (c ∷ (d ∷ (e ∷ (f ∷ (g ∷ (h ∷ (i ∷ is))))))))) l = absurd (omega arith)

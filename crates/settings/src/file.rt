@@ -124,6 +124,7 @@ impl<'f> Settings<'f> {
     }
 }
 
+// The number of bytes of keys with these lengths.
 fn total(lengths: &[u8]) -> usize
     requires { length lengths.now ≤ 4096 }
     ensures { result ≡ sum lengths.now }

@@ -77,6 +77,7 @@ fn first_too_long(settings: &[Setting<'_>]) -> Option<usize>
 }
 
 // The first of the keys that is equal to an earlier one.
+// Beside that of a file's keys: one function over both would need a slice's iterator to be copied.
 fn first_repeated(settings: &[Setting<'_>]) -> Option<usize>
     ensures { Least (Repeats (keys_of settings.now)) result }
 {

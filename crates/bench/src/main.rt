@@ -2,7 +2,7 @@
 // bytes alone. What was found goes to standard output, the times to standard error.
 #![tactic(auto)]
 
-use anyhow::anyhow;
+use anyhow::Context;
 use settings::{Identifier, Setting, Settings};
 use std::alloc::{AllocError, Global};
 use std::time::Instant;
@@ -15,43 +15,32 @@ fn key(heap: Global, i: u16) -> Result<Vec<u8>, AllocError> {
 }
 
 fn make_keys(heap: Global) -> Result<Vec<Vec<u8>>, AllocError> {
-    let mut keys = Vec::new(heap);
-    for i in 0..4096u16 {
-        keys.push(key(heap, i)?)?;
-    }
-    Ok(keys)
+    (0..4096).map(|i| key(heap, i)).try_collect(heap)
 }
 
 fn settings_of(heap: Global, keys: &[Vec<u8>]) -> Result<Vec<Setting<'_>>, AllocError> {
-    let mut all = Vec::new(heap);
-    for key in keys {
-        all.push(Setting {
+    keys.iter()
+        .map(|key| Setting {
             key: key.as_slice(),
             value: 1.0,
-        })?;
-    }
-    Ok(all)
+        })
+        .collect(heap)
 }
 
 fn identifiers_of(heap: Global, keys: &[Vec<u8>]) -> Result<Vec<Identifier<'_>>, AllocError> {
-    let mut all = Vec::new(heap);
-    for key in keys {
-        all.push(Identifier {
+    keys.iter()
+        .map(|key| Identifier {
             id: None,
             name: Some(key.as_slice()),
-        })?;
-    }
-    Ok(all)
+        })
+        .collect(heap)
 }
 
 fn found(settings: &Settings<'_>, overrides: &[Identifier<'_>]) -> usize {
-    let mut n: usize = 0;
-    for who in overrides {
-        if settings.value_for(*who).is_some() {
-            n = n.saturating_add(1);
-        }
-    }
-    n
+    overrides
+        .iter()
+        .filter(|who| settings.value_for(**who).is_some())
+        .count()
 }
 
 fn run(rt: &HostRuntime) -> anyhow::Result<()> {
@@ -60,15 +49,9 @@ fn run(rt: &HostRuntime) -> anyhow::Result<()> {
     let all = settings_of(heap, keys.as_slice())?;
     let overrides = identifiers_of(heap, keys.as_slice())?;
     let start = Instant::now(rt)?;
-    let file = match settings::write(heap, all.as_slice()) {
-        Ok(file) => file,
-        Err(_) => return Err(anyhow!("the settings were not written")),
-    };
+    let file = settings::write(heap, all.as_slice()).context("the settings were not written")?;
     let written = start.elapsed(rt)?;
-    let settings = match Settings::read(file.as_slice()) {
-        Ok(settings) => settings,
-        Err(_) => return Err(anyhow!("the file was not read")),
-    };
+    let settings = Settings::read(file.as_slice()).context("the file was not read")?;
     let read = start.elapsed(rt)?;
     let n = found(&settings, overrides.as_slice());
     let matched = start.elapsed(rt)?;

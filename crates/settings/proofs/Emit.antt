@@ -1,17 +1,17 @@
 -- A settings file, put together part by part.
-use Rattle.std.proofs.Common.{◌≡◌, ℕ, zero, suc, ◌+◌, ◌/◌, ◌%◌, ◌^◌, ◌<◌, ◌≤◌, List, [], ◌∷◌, ◌++◌, map, length, get_or, take, Some, None, Ok, Err, sym, refl, ap, ◌∙◌, subst, ⊎_elim, arith, w8, Fits}
+use Rattle.std.proofs.Common.{◌≡◌, ℕ, zero, suc, ◌+◌, ◌/◌, ◌%◌, ◌^◌, ◌<◌, ◌≤◌, List, [], ◌∷◌, ◌++◌, length, get_or, take, Some, None, Ok, Err, sym, refl, ap, ◌∙◌, subst, ⊎_elim, arith, w8, Fits}
 use lib.Ieee.{to_bits, binary64}
 use Rattle.std.specs.List.{flat_map, AllByRecursion}
-use Rattle.std.proofs.lemmas.List.{append_assoc, map_more, map_push, flat_map_more, length-map}
+use Rattle.std.specs.Option.{option_map}
+use Rattle.std.proofs.lemmas.List.{map_more, flat_map_more, length-map}
 use Rattle.std.proofs.ByRecursion.{All-push}
-use Rattle.std.proofs.lemmas.Option.{slice_get-get_or}
+use Rattle.std.proofs.lemmas.Option.{slice_get-get_or, slice_get-map}
 use Rattle.std.proofs.lemmas.Bool.{cases_lt}
 use Rattle.settings.specs.First.{Least}
-use Rattle.settings.specs.Layout.{Given, Valid, Encodes, Repeats, Distinct, bytes_of, encode}
+use Rattle.settings.specs.Layout.{Given, Valid, Encodes, Repeats, Distinct, bytes_of}
 use Rattle.settings.specs.Reading.{given}
 use Rattle.settings.specs.Written.{keys_of, value_bits_of, given_by, TooLong, Restored, ValuesBack, ReadsBack}
 use Rattle.settings.specs.declared.writing.Setting.{Setting}
-use Rattle.settings.proofs.Places.{nth_map}
 
 -- ---- one setting more
 
@@ -30,21 +30,6 @@ eight_bytes n =
     let f : n / 256 / 256 / 256 / 256 / 256 / 256 / 256 ≡ n / 72057594037927936 = omega arith in
     cc
 
-module _ (ss : List Setting) (i : ℕ) (d : Setting) (l : i < length ss) (old now' next : List ℕ) where
-  key_more : keys_of (take (i + 1) ss) ≡ keys_of (take i ss) ++ (get_or ss i d).key.now ∷ []
-  key_more = map_more (λ s. s.key.now) ss i d l
-
-  pub lengths_more : now' ≡ old ++ map length (keys_of (take i ss)) → next ≡ now' ++ length (get_or ss i d).key.now ∷ [] →
-      next ≡ old ++ map length (keys_of (take (i + 1) ss))
-  lengths_more e f =
-      f ∙ ap (λ x. x ++ length (get_or ss i d).key.now ∷ []) e ∙ append_assoc old _ _ ∙ ap (λ x. old ++ x) (sym (map_push length (keys_of (take i ss)) (get_or ss i d).key.now))
-      ∙ ap (λ ks. old ++ map length ks) (sym key_more)
-
-  pub keys_more : now' ≡ old ++ flat_map (λ k. k) (keys_of (take i ss)) → next ≡ now' ++ (get_or ss i d).key.now →
-      next ≡ old ++ flat_map (λ k. k) (keys_of (take (i + 1) ss))
-  keys_more e f =
-      f ∙ ap (λ x. x ++ (get_or ss i d).key.now) e ∙ flat_map_more (λ k. k) old (keys_of (take i ss)) (get_or ss i d).key.now ∙ ap (λ ks. old ++ flat_map (λ k. k) ks) (sym key_more)
-
 module _ (ss : List Setting) (i : ℕ) (d : Setting) (l : i < length ss) (b : ℕ) (is : b ≡ to_bits binary64 (get_or ss i d).value) where
   value_more : value_bits_of (take (i + 1) ss) ≡ value_bits_of (take i ss) ++ b ∷ []
   value_more = map_more (λ s. to_bits binary64 s.value) ss i d l ∙ ap (λ x. value_bits_of (take i ss) ++ x ∷ []) (sym is)
@@ -61,7 +46,7 @@ module _ (ss : List Setting) (i : ℕ) (d : Setting) (l : i < length ss) (b : �
 
 short_at : (ss : List Setting) (i : ℕ) (d : Setting) → Least (TooLong (keys_of ss)) None → i < length ss → length (get_or ss i d).key.now ≤ 255
 short_at ss i d h l =
-    ⊎_elim (λ (m : 255 < length (get_or ss i d).key.now). absurd (h i ((get_or ss i d).key.now, nth_map (λ s. s.key.now) ss i (get_or ss i d) (slice_get-get_or ss i d l), m)))
+    ⊎_elim (λ (m : 255 < length (get_or ss i d).key.now). absurd (h i ((get_or ss i d).key.now, slice_get-map (λ s. s.key.now) ss i ∙ ap (option_map (λ s. s.key.now)) (slice_get-get_or ss i d l), m)))
     (λ m. m) (cases_lt 255 (length (get_or ss i d).key.now))
 
 pub short_fits : (ss : List Setting) (i : ℕ) (d : Setting) → Least (TooLong (keys_of ss)) None → i < length ss → Fits w8 (length (get_or ss i d).key.now)
@@ -74,16 +59,6 @@ short_all (k ∷ ks) h =
     (one, short_all ks (λ i t. h (suc i) t))
 
 -- ---- the whole
-
-pub assembled : (ss : List Setting) (start first second third whole head : List ℕ) → start ≡ [] → head ≡ (length ss % 256) ∷ (length ss / 256 % 256) ∷ [] →
-    first ≡ start ++ head → second ≡ first ++ map length (keys_of ss) → third ≡ second ++ flat_map (λ k. k) (keys_of ss) →
-    whole ≡ third ++ flat_map (bytes_of 8) (value_bits_of ss) → whole ≡ encode (given_by ss)
-assembled ss start first second third whole head a h b c d e =
-    let n = length-map ss (λ s. s.key.now) in
-    let ks = map length (keys_of ss) in let js = flat_map (λ k. k) (keys_of ss) in let vs = flat_map (bytes_of 8) (value_bits_of ss) in
-    let f : first ≡ bytes_of 2 (length (keys_of ss)) = b ∙ ap (λ x. x ++ head) a ∙ h ∙ ap (bytes_of 2) (sym n) in
-    e ∙ ap (λ x. x ++ vs) (d ∙ ap (λ x. x ++ js) (c ∙ ap (λ x. x ++ ks) f))
-    ∙ append_assoc (bytes_of 2 (length (keys_of ss)) ++ ks) js vs ∙ append_assoc (bytes_of 2 (length (keys_of ss))) ks (js ++ vs)
 
 pub valid_settings : (ss : List Setting) → length ss ≤ 4096 → Least (TooLong (keys_of ss)) None → AllByRecursion (λ x. x < 2 ^ 64) (value_bits_of ss) → Valid (given_by ss)
 valid_settings ss few short doubles =

@@ -4,3 +4,5 @@ pub mod Codes
 pub mod Keys
 pub mod Reading
 pub mod Written
+pub mod Decimals
+pub mod Walks

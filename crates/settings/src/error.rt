@@ -1,6 +1,7 @@
 ghost use Rattle.std.specs.Prelude.{◌≡◌, Some};
 ghost use Rattle.settings.specs.Codes.{code_of, words_of};
 
+use std::error::Error;
 use std::fmt;
 
 // Why a settings file, or the overrides of it, are refused.
@@ -24,6 +25,7 @@ impl SettingsError {
     }
 }
 
+// By hand, since `output` states the text.
 impl fmt::Display for SettingsError {
     ghost output = { λ e. Some (words_of e) };
 
@@ -38,3 +40,5 @@ impl fmt::Display for SettingsError {
         }
     }
 }
+
+impl Error for SettingsError {}

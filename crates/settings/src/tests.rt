@@ -5,17 +5,11 @@ use std::test::Fail;
 const FILE: [u8; 12] = [1, 0, 1, b'a', 0, 0, 0, 0, 0, 0, 0xf0, 0x3f];
 
 fn is_number(bytes: &[u8], number: u16) -> bool {
-    match read_key(bytes) {
-        Key::Number(n) => n == number,
-        Key::Name(_) => false,
-    }
+    matches!(read_key(bytes), Key::Number(n) if n == number)
 }
 
 fn refusal(file: &[u8]) -> Option<SettingsError> {
-    match Settings::read(file) {
-        Ok(_) => None,
-        Err(error) => Some(error),
-    }
+    Settings::read(file).err()
 }
 
 #[test]
@@ -23,6 +17,17 @@ fn numbers(rt: HostRuntime) {
     assert!(rt; is_number(b"0", 0));
     assert!(rt; is_number(b"7", 7));
     assert!(rt; is_number(b"65535", 65535));
+}
+
+#[test]
+fn decimals(rt: HostRuntime) {
+    assert_eq!(rt; read_decimal::<u8>("255"), Some(255));
+    assert_eq!(rt; read_decimal::<u8>("256"), None);
+    assert_eq!(rt; read_decimal::<u16>("256"), Some(256));
+    assert_eq!(rt; read_decimal::<u32>("4294967295"), Some(4294967295));
+    for word in ["", "+7", "07", "-1", "1 "] {
+        assert_eq!(rt; read_decimal::<u32>(word), None);
+    }
 }
 
 #[test]
@@ -51,6 +56,31 @@ fn one_setting(rt: HostRuntime) -> Result<(), Fail> {
         settings.every_key_taken(&[by_id]),
         Err(SettingsError::NotFound { key: 0 })
     );
+    Ok(())
+}
+
+#[test]
+fn settings_in_order(rt: HostRuntime) -> Result<(), Fail> {
+    let file = write(
+        rt.alloc(),
+        &[
+            Setting {
+                key: b"a",
+                value: 1.0,
+            },
+            Setting {
+                key: b"bc",
+                value: -2.5,
+            },
+        ],
+    )?;
+    let mut settings = Settings::read(file.as_slice())?.iter();
+    for (key, value) in [("a", 1.0), ("bc", -2.5)] {
+        let setting = settings.next().expect(&rt, "a setting");
+        assert_eq!(rt; setting.key, key.as_bytes());
+        assert_eq!(rt; setting.value, value);
+    }
+    assert!(rt; settings.next().is_none());
     Ok(())
 }
 

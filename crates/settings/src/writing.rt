@@ -1,4 +1,4 @@
-ghost use Rattle.std.specs.Prelude.{◌≡◌, ◌^◌, ◌<◌, ◌≤◌, ◌++◌, map, length, IfOk, IfErr, Some, None, Decides, OnOk, from_bits, to_bits};
+ghost use Rattle.std.specs.Prelude.{◌≡◌, ◌^◌, ◌<◌, ◌≤◌, ◌++◌, map, length, take, IfOk, IfErr, Some, None, Decides, OnOk, from_bits, to_bits};
 ghost use Rattle.std.specs.Float.{binary64};
 ghost use Rattle.std.specs.List.{flat_map, AllByRecursion};
 ghost use Rattle.settings.specs.First.{Least};
@@ -7,6 +7,7 @@ ghost use Rattle.settings.specs.Written.{keys_of, value_bits_of, given_by, TooLo
 
 use crate::{LONGEST_KEY, MOST_SETTINGS};
 use std::alloc::{AllocError, Global};
+use std::error::Error;
 use std::fmt;
 use std::num::f64_to_bits_with_nan;
 
@@ -26,6 +27,7 @@ pub enum WriteError {
     OutOfMemory,
 }
 
+// By hand, since `output` states the text.
 impl fmt::Display for WriteError {
     ghost output = { λ e. Some (write_words e) };
 
@@ -41,6 +43,8 @@ impl fmt::Display for WriteError {
         }
     }
 }
+
+impl Error for WriteError {}
 
 // The settings file of these settings.
 pub fn write(heap: Global, settings: &[Setting<'_>]) -> Result<Vec<u8>, WriteError>
@@ -59,47 +63,40 @@ pub fn write(heap: Global, settings: &[Setting<'_>]) -> Result<Vec<u8>, WriteErr
     if let Some(key) = first_repeated(settings) {
         return Err(WriteError::RepeatedKey { key });
     }
-    match encoded(heap, settings) {
-        Ok(file) => Ok(file),
-        Err(_) => Err(WriteError::OutOfMemory),
-    }
+    encoded(heap, settings).map_err(|_| WriteError::OutOfMemory)
 }
 
 // The first key that is too long for its length to be a byte.
 fn first_too_long(settings: &[Setting<'_>]) -> Option<usize>
     ensures { Least (TooLong (keys_of settings.now)) result }
 {
-    for (i, setting) in settings.iter().enumerate() {
-        if setting.key.len() > LONGEST_KEY {
-            return Some(i);
-        }
-    }
-    None
+    settings
+        .iter()
+        .map(|setting| setting.key)
+        .position(|key| key.len() > LONGEST_KEY)
 }
 
 // The first of the keys that is equal to an earlier one.
+// Beside that of a file's keys: one function over both would need a slice's iterator to be copied.
 fn first_repeated(settings: &[Setting<'_>]) -> Option<usize>
     ensures { Least (Repeats (keys_of settings.now)) result }
 {
-    for (i, setting) in settings.iter().enumerate() {
-        let (before, _) = settings.split_at(i);
-        if is_key(before, setting.key) {
-            return Some(i);
-        }
-    }
-    None
+    settings
+        .iter()
+        .map(|setting| setting.key)
+        .enumerate()
+        .position(|(i, key)| has_within(settings, i, key))
 }
 
-// Whether bytes are the key of a setting.
-fn is_key(settings: &[Setting<'_>], key: &[u8]) -> bool
-    ensures { Decides result (Among key.now (keys_of settings.now)) }
+// Whether bytes are the key of one of the first `n` settings.
+fn has_within(settings: &[Setting<'_>], n: usize, bytes: &[u8]) -> bool
+    ensures { Decides result (Among bytes.now (take n (keys_of settings.now))) }
 {
-    for setting in settings {
-        if setting.key == key {
-            return true;
-        }
-    }
-    false
+    settings
+        .iter()
+        .map(|setting| setting.key)
+        .take(n)
+        .any(|key| key == bytes)
 }
 
 fn encoded(heap: Global, settings: &[Setting<'_>]) -> Result<Vec<u8>, AllocError>
@@ -121,6 +118,7 @@ fn push_lengths(file: &mut Vec<u8>, settings: &[Setting<'_>]) -> Result<(), Allo
     requires { Least (TooLong (keys_of settings.now)) None }
     ensures { OnOk result (file.new.items ≡ file.old.items ++ map length (keys_of settings.now)) }
 {
+    // A loop: in a chain the closure's cast would need a clause of its own.
     for setting in settings {
         file.push(setting.key.len() as u8)?;
     }
@@ -130,6 +128,7 @@ fn push_lengths(file: &mut Vec<u8>, settings: &[Setting<'_>]) -> Result<(), Allo
 fn push_keys(file: &mut Vec<u8>, settings: &[Setting<'_>]) -> Result<(), AllocError>
     ensures { OnOk result (file.new.items ≡ file.old.items ++ flat_map (λ k. k) (keys_of settings.now)) }
 {
+    // A loop: it copies a key at once, and a flattened chain a byte at a time.
     for setting in settings {
         file.extend_from_slice(setting.key)?;
     }
@@ -149,6 +148,7 @@ fn push_values(file: &mut Vec<u8>, settings: &[Setting<'_>]) -> Result<(), Alloc
     ensures doubles { OnOk result (AllByRecursion (λ b. b < 2 ^ 64) (value_bits_of settings.now)) }
     ensures restored { OnOk result (AllByRecursion Restored settings.now) }
 {
+    // A loop: no clause of a chain of arrays says what it flattens to.
     for setting in settings {
         file.extend_from_slice(&bits_of(setting.value).to_le_bytes())?;
     }

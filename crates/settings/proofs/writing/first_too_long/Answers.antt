@@ -1,19 +1,13 @@
-use Rattle.std.proofs.Common.{◌<◌, length, arith, below_more}
-use Rattle.std.proofs.lemmas.Option.{slice_get-get_or}
-use Rattle.std.proofs.lemmas.List.{length-map}
+use Rattle.std.proofs.Common.{◌<◌, length, rules, tests}
+use Rattle.std.proofs.lemmas.Iterator.{YieldsList-from_slice, YieldsList-from_map_by, IsFirst-from_position}
+use Rattle.std.proofs.lemmas.Iterator.Consumers.{YieldsList-at}
 use Rattle.settings.specs.Written.{keys_of}
-use Rattle.settings.proofs.Places.{within, not_here, not_above, nth_map}
+use Rattle.settings.proofs.Places.{least_found}
 use Rattle.settings.proofs.writing.first_too_long.Goals as goal
 
-pub loop-i-preserved : goal.loop-i-preserved
-loop-i-preserved c =
-    below_more _ _ c.loop-i.invariant
-    (not_here (λ k. 255 < length k) (keys_of c.args.settings.now) c.loop-i.i _
-    (nth_map (λ s. s.key.now) c.args.settings.now c.loop-i.i _ (slice_get-get_or c.args.settings.now c.loop-i.i _ c.loop-i-test.true)) (not_above 255 _ c.if-setting-gt-LONGEST_KEY.false))
-
-pub returns-then-setting-gt-LONGEST_KEY : goal.returns-then-setting-gt-LONGEST_KEY
-returns-then-setting-gt-LONGEST_KEY c =
-    ((_, nth_map (λ s. s.key.now) c.args.settings.now c.loop-i.i _ (slice_get-get_or c.args.settings.now c.loop-i.i _ c.loop-i-test.true), c.if-setting-gt-LONGEST_KEY.true), c.loop-i.invariant)
-
 pub returns : goal.returns
-returns c = λ k h. c.loop-i.invariant k (omega (arith, within (keys_of c.args.settings.now) k _ h.1, length-map c.args.settings.now (λ s. s.key.now))) h
+returns c =
+    least_found (λ k. 255 < length k) (λ k. 255 < length k → ⊥) (keys_of c.args.settings.now) c.position.result (λ x no yes. no yes)
+    (IsFirst-from_position c.position.new.self _ c.position.result (λ k. 255 < length k) (λ k. 255 < length k → ⊥) c.position.ensures.ran
+    (YieldsList-from_map_by _ (λ k. k.now) (λ s. s.key.now) (YieldsList-at c.map.ensures.source (YieldsList-from_slice c.args.settings.now cc)) c.map.ensures.closure (λ x r q k. search (rules, tests)))
+    (λ x q k. search (rules, tests)) (λ x q k. search (rules, tests)))

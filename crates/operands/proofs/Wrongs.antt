@@ -1,10 +1,9 @@
 -- From what was looked at to what is wrong.
 use Rattle.std.proofs.Common.{◌≡◌, ℕ, ◌+◌, ◌-◌, ◌<◌, ◌≤◌, true, false, cond, eqb, ltb, leb, ◌⊎◌, List, length, take, Some, None, Option, sym, ap, ◌∙◌, subst, inl, inr, ⊎_elim, arith}
-use Rattle.std.specs.Option.{option_or}
 use Rattle.std.proofs.lemmas.Bool.{cases_lt, cases_Bool, leb-true, eqb-true, lt-ltb, le-ltb, and_parts, and_from, cond-true, cond-false, false≢true}
 use Rattle.kinds.specs.Kinds.{Row, count, admitted, front_length_of, needed_slot_at}
-use Rattle.places.specs.First.{Least, Holds, Over, lesser_of}
-use Rattle.places.proofs.Kit.{least_iff, least_or, cut_in, cut_out, Cut, in_take, within, limited_some, limited_none}
+use Rattle.places.specs.First.{Least, Holds, lesser_of}
+use Rattle.places.proofs.Kit.{least_iff, least_or, cut_in, cut_out, Cut, in_take, within}
 use Rattle.arena.specs.declared.entry.Entry.{Entry}
 use Rattle.operands.specs.declared.Sort.{Sort}
 use Rattle.operands.specs.declared.Demand.TheVariants.{Present, BelowOwn, Below}
@@ -160,9 +159,3 @@ pub least_of_both : (sort : Sort) (limit : ℕ) (es : List Entry) (os cut : List
 least_of_both sort limit es os cut a b r p e q f =
     front_and_tail sort es (take limit os) r
     (rw f (least_or (Front (Present sort) es (take limit os)) (Tail sort es (take limit os)) a b p (subst (λ xs. Least (Tail sort es xs) b) e q)))
-
--- the least below a limit, or the limit itself
-pub limited_or : (P Q : ℕ → Type 0) (limit n : ℕ) → Cut P Q limit n → (a b r : Option ℕ) → Least P a → Least (Over limit n) b → r ≡ option_or a b →
-    Least (λ k. Over limit n k ⊎ Q k) r
-limited_or P Q limit n c (Some k) b r h o e = rw e (limited_some P Q limit n c k h)
-limited_or P Q limit n c None b r h o e = rw e (limited_none P Q limit n c h b o)

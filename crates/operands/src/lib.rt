@@ -5,13 +5,13 @@
 #![tactic(auto)]
 
 ghost use Rattle.std.specs.Prelude.{◌≡◌, ℕ, ◌+◌, ◌<◌, ◌≤◌, min, true, ◌&&◌, ◌⊎◌, length, take, position, if◌then◌else◌, Some, None, IfSome, Decides, ◌==◌, nat_le};
-ghost use Rattle.std.specs.List.{zip};
+ghost use Rattle.std.specs.List.{zip, filter_map, reduce};
 ghost use Rattle.std.specs.Option.{option_map};
 ghost use Rattle.kinds.specs.Kinds.{row_of};
 ghost use Rattle.places.specs.First.{Least, Over, Holds};
 ghost use Rattle.operands.specs.Faults.{absent, slots_of, out_of_range_of};
 ghost use Rattle.operands.specs.Operands.{Lacking, NotBelow, Beyond};
-ghost use Rattle.operands.specs.Walk.{lacks, fronted, asked, failing, Front, Tail, InTail, InSlots, Looked, Reached};
+ghost use Rattle.operands.specs.Walk.{lacks, fronted, asked, failing, place_in_slots, place_in_tail, Front, Looked, Reached};
 
 use arena::{ABSENT, Entry, Handle};
 use kinds::{Slot, Slots};
@@ -166,15 +166,16 @@ fn lacking_slot(slots: &[Slot], operands: &[Handle]) -> Option<usize>
 
 // The least place from `from` on whose slot needs it and that is absent.
 fn least_in_slots(row: &Slots, from: usize, operands: &[Handle]) -> Option<usize>
-    ensures { Least (InSlots (row_of row.now) from operands.now) result }
+    ensures { result ≡ place_in_slots (row_of row.now) from operands.now }
 {
     let rest = operands.get(from..)?;
     let j = lacking_slot(row.slots, rest)?;
     Some(from + j)
 }
 
+// The least place that is absent and has a slot that needs it.
 fn least_in_tail(sort: Sort, e: &Entry, operands: &[Handle]) -> Option<usize>
-    ensures { Least (InTail sort operands.now e.now) result }
+    ensures { result ≡ place_in_tail sort operands.now e.now }
 {
     let row = slots_of(sort, e.kind)?;
     if !row.admits(e.run.len) {
@@ -184,16 +185,14 @@ fn least_in_tail(sort: Sort, e: &Entry, operands: &[Handle]) -> Option<usize>
     least_in_slots(&row, from, operands)
 }
 
-// The least place that is absent and has a slot that needs it, in some entry.
+// The least of these in some entry.
 fn least_tail(sort: Sort, entries: &[Entry], operands: &[Handle]) -> Option<usize>
-    ensures { Least (Tail sort entries.now operands.now) result }
+    ensures { result ≡ reduce min (filter_map (place_in_tail sort operands.now) entries.now) }
 {
-    let mut found = None;
-    for e in entries {
-        let here = least_in_tail(sort, e, operands);
-        found = lesser(found, here);
-    }
-    found
+    entries
+        .iter()
+        .filter_map(|e| least_in_tail(sort, e, operands))
+        .min()
 }
 
 // The least place that is absent and that some entry needs, or the limit of a list that is over it. No place past the limit is looked at.

@@ -5,27 +5,24 @@ use Rattle.std.specs.Option.{option_map}
 use Rattle.std.proofs.lemmas.Bool.{cases_lt, cases_Bool, lt-ltb, le-ltb, and_parts, and_from, cond-true, cond-false, false≢true}
 use Rattle.std.proofs.lemmas.List.{drop_all}
 use Rattle.std.proofs.lemmas.List.Sums.{passes_at_first, fails_before_first}
-use Rattle.std.proofs.lemmas.Option.{slice_get-get_or, slice_get_past, get_or_from_slice_get}
+use Rattle.std.proofs.lemmas.Option.{slice_get-get_or, slice_get_past, slice_get_within, get_or_from_slice_get, none-some}
 use Rattle.kinds.specs.declared.Slot.{Slot}
 use Rattle.kinds.specs.declared.Slot.TheVariants.{Needed}
 use Rattle.kinds.specs.Kinds.{Row, needed_slot, needed_where, admitted, front_length_of, needed_slot_at}
 use Rattle.places.specs.First.{Least, Holds, lesser_of}
-use Rattle.places.proofs.Kit.{least_iff, least_or, within}
+use Rattle.places.proofs.Kit.{least_iff, least_or}
 use Rattle.arena.specs.declared.entry.Entry.{Entry}
 use Rattle.operands.specs.declared.Sort.{Sort}
 use Rattle.operands.specs.Faults.{absent, slots_of}
 use Rattle.operands.specs.Walk.{lacks, place_in_slots, place_in_row, place_in_tail, InSlots, InRow, InTail, Tail}
-
-no_item : {A : Type 0} {x : A} {P : Type 0} → ◌≡◌ {A = Option A} None (Some x) → P
-no_item e = let z : ◌≡◌ {A = ℕ} 0 1 = cc in absurd (omega arith)
 
 -- slot j needs the operand there, and it is absent
 abbrev pub Lacks : List Slot → List ℕ → ℕ → Type 0
 Lacks ss hs j = (needed_where (slice_get ss j) ≡ true) × Holds (λ _ h. (h == absent) ≡ true) hs j
 
 paired : (ss : List Slot) (hs : List ℕ) (j : ℕ) → Holds (λ _ p. lacks p ≡ true) (zip ss hs) j → Lacks ss hs j
-paired [] hs j v = no_item v.1
-paired (s ∷ ss) [] j v = no_item v.1
+paired [] hs j v = absurd (none-some _ v.1)
+paired (s ∷ ss) [] j v = absurd (none-some _ v.1)
 paired (s ∷ ss) (h ∷ hs) zero v =
     let here = v.1 in
     let e : v.0 ≡ (s, h) = cc in
@@ -35,7 +32,7 @@ paired (s ∷ ss) (h ∷ hs) (suc j) v = paired ss hs j v
 
 unpaired : (ss : List Slot) (hs : List ℕ) (j : ℕ) → Lacks ss hs j → Holds (λ _ p. lacks p ≡ true) (zip ss hs) j
 unpaired [] hs j v = absurd (false≢true v.0)
-unpaired (s ∷ ss) [] j v = no_item v.1.1
+unpaired (s ∷ ss) [] j v = absurd (none-some _ v.1.1)
 unpaired (s ∷ ss) (h ∷ hs) zero v =
     let there = v.1.1 in
     let e : v.1.0 ≡ h = cc in
@@ -51,7 +48,7 @@ first_passing p xs =
     ((get_or xs (position_or_len p xs) (Needed, 0), slice_get-get_or xs _ _ l, passes_at_first p xs _ l), λ j m. before j m))
     (λ (l : length xs ≤ position_or_len p xs).
     subst (Least (Holds (λ _ x. p x ≡ true) xs)) (sym (cond-false (ltb (position_or_len p xs) (length xs)) (Some (position_or_len p xs)) None (le-ltb _ _ l)))
-    (λ j h. before j (omega (arith, within xs j h.0 h.1)) h))
+    (λ j h. before j (omega (arith, slice_get_within xs j h.0 h.1)) h))
     (cases_lt (position_or_len p xs) (length xs))
   where
     before : (j : ℕ) → j < position_or_len p xs → Holds (λ _ x. p x ≡ true) xs j → ⊥
@@ -126,7 +123,7 @@ module _ (P : Entry → ℕ → Type 0) (F : Entry → Option ℕ) (least : (e :
   split_first e es k (suc i) h = inr (i, h)
 
   pub least_of_all : (es : List Entry) → Least (λ k. (i : ℕ) × Holds (λ _ e. P e k) es i) (reduce min (filter_map F es))
-  least_of_all [] = λ k w. no_item w.1.1
+  least_of_all [] = λ k w. absurd (none-some _ w.1.1)
   least_of_all (e ∷ es) =
       let rest : ℕ → Type 0 = λ k. (i : ℕ) × Holds (λ _ e. P e k) es i in
       rw (reduced (F e) (filter_map F es))

@@ -2,10 +2,11 @@
 use Rattle.std.proofs.Common.{◌≡◌, ℕ, ◌+◌, ◌-◌, ◌<◌, ◌≤◌, min, true, false, cond, eqb, ltb, leb, ◌⊎◌, List, length, take, Some, None, Option, sym, ap, ◌∙◌, subst, inl, inr, ⊎_elim, arith}
 use Rattle.std.specs.List.{filter_map, reduce}
 use Rattle.std.proofs.lemmas.Bool.{cases_lt, cases_Bool, leb-true, eqb-true, lt-ltb, le-ltb, and_parts, and_from, cond-true, cond-false, false≢true}
+use Rattle.std.proofs.lemmas.Option.{slice_get_within}
 use Rattle.kinds.specs.Kinds.{Row, count, admitted, front_length_of, needed_slot_at}
 use Rattle.places.specs.First.{Least, Holds, lesser_of}
 use Rattle.operands.proofs.Tails.{least_of_tails}
-use Rattle.places.proofs.Kit.{least_iff, least_or, cut_in, cut_out, Cut, in_take, within}
+use Rattle.places.proofs.Kit.{least_iff, least_or, cut_in, cut_out, Cut, in_take}
 use Rattle.arena.specs.declared.entry.Entry.{Entry}
 use Rattle.operands.specs.declared.Sort.{Sort}
 use Rattle.operands.specs.declared.Demand.TheVariants.{Present, BelowOwn, Below}
@@ -152,7 +153,7 @@ wrong_cut F limit es os =
       into = λ k w. let r = w.1.2 in (w.0, (w.1.0, w.1.1, (r.0, r.1, r.2, cut_in (λ _ h. F w.0 w.1.0 r.0 h) limit os k r.3)));
       out = λ k l w. let r = w.1.2 in (w.0, (w.1.0, w.1.1, (r.0, r.1, r.2, cut_out (λ _ h. F w.0 w.1.0 r.0 h) limit os k l r.3)));
       low = λ k w. let r = w.1.2 in in_take limit os k r.3.0 r.3.1;
-      high = λ k w. let r = w.1.2 in within os k r.3.0 r.3.1;
+      high = λ k w. let r = w.1.2 in slice_get_within os k r.3.0 r.3.1;
     }
 
 -- both searches below the limit, over a list that is cut there

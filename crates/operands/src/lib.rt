@@ -107,7 +107,7 @@ impl Demand {
     {
         let mut found = None;
         let mut place = from;
-        // No `for`: it jumps over what is in reach, so that each place is looked at once.
+        // No `for`: it jumps over what is in reach.
         while place < to {
             let at = place as usize;
             let here = reach[at];
@@ -126,6 +126,7 @@ impl Demand {
         ensures { Least (Front self entries.now operands.now) result }
     {
         let mut found = None;
+        // No chain: each entry changes what is in reach of the next.
         for (i, e) in entries.iter().enumerate() {
             let to = self.end_of(e, operands.len());
             let here = self.look(i, e.run.at, to, operands, reach);
@@ -177,15 +178,12 @@ fn least_in_slots(row: &Slots, from: usize, operands: &[Handle]) -> Option<usize
 fn least_in_tail(sort: Sort, e: &Entry, operands: &[Handle]) -> Option<usize>
     ensures { result ≡ place_in_tail sort operands.now e.now }
 {
-    let row = slots_of(sort, e.kind)?;
-    if !row.admits(e.run.len) {
-        return None;
-    }
+    let row = slots_of(sort, e.kind).filter(|row| row.admits(e.run.len))?;
     let from = e.run.at as usize + row.front(e.run.len) as usize;
     least_in_slots(&row, from, operands)
 }
 
-// The least of these in some entry.
+// The least of these places over all entries.
 fn least_tail(sort: Sort, entries: &[Entry], operands: &[Handle]) -> Option<usize>
     ensures { result ≡ reduce min (filter_map (place_in_tail sort operands.now) entries.now) }
 {

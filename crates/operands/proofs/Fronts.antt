@@ -1,10 +1,10 @@
 -- The demand of one entry more.
 use Rattle.std.proofs.Common.{◌≡◌, ℕ, ◌+◌, ◌<◌, ◌≤◌, min, Bool, true, false, cond, ◌&&◌, eqb, leb, ◌⊎◌, List, length, get_or, Some, None, Option, refl, subst, inl, inr, ⊎_elim, arith}
 use Rattle.std.specs.List.{slice_get}
-use Rattle.std.proofs.lemmas.Option.{slice_get-get_or}
+use Rattle.std.proofs.lemmas.Option.{slice_get-get_or, slice_get_within, none-some}
 use Rattle.std.proofs.lemmas.Bool.{cases_lt, leb-true, le-leb}
 use Rattle.places.specs.First.{Least, Holds, lesser_of}
-use Rattle.places.proofs.Kit.{SomeBelow, least_iff, within}
+use Rattle.places.proofs.Kit.{SomeBelow, least_iff}
 use Rattle.arena.specs.declared.entry.Entry.{Entry}
 use Rattle.operands.specs.declared.Demand.{Demand}
 use Rattle.operands.specs.declared.Demand.TheVariants.{Present, BelowOwn, Below}
@@ -25,14 +25,14 @@ fails_before (Below bound) i j h l e = e
 pub least_join : (P Q : ℕ → Type 0) (a b : Option ℕ) → Least P a → ((k : ℕ) → b ≡ Some k → Q k) →
     ((k : ℕ) → Q k → P k ⊎ ((f : ℕ) × (b ≡ Some f) × (f ≤ k))) → Least (λ k. P k ⊎ Q k) (lesser_of a b)
 least_join P Q None None p found missed =
-    λ k. ⊎_elim (p k) (λ q. ⊎_elim (p k) (λ (m : (f : ℕ) × (None ≡ Some f) × (f ≤ k)). let e = m.1 in let z : ◌≡◌ {A = ℕ} 0 1 = cc in absurd (omega arith)) (missed k q))
+    λ k. ⊎_elim (p k) (λ q. ⊎_elim (p k) (λ (m : (f : ℕ) × (None ≡ Some f) × (f ≤ k)). absurd (none-some _ m.1)) (missed k q))
 least_join P Q None (Some y) p found missed = (
   inr (found y refl),
   λ j l. ⊎_elim (p j) (λ q. ⊎_elim (p j) (λ (m : (f : ℕ) × (Some y ≡ Some f) × (f ≤ j)). let e = m.1 in let f = m.0 in let s : y ≡ f = cc in absurd (omega (arith, m.2))) (missed j q)),
 )
 least_join P Q (Some x) None p found missed = (
   inl p.0,
-  λ j l. ⊎_elim (p.1 j l) (λ q. ⊎_elim (p.1 j l) (λ (m : (f : ℕ) × (None ≡ Some f) × (f ≤ j)). let e = m.1 in let z : ◌≡◌ {A = ℕ} 0 1 = cc in absurd (omega arith)) (missed j q)),
+  λ j l. ⊎_elim (p.1 j l) (λ q. ⊎_elim (p.1 j l) (λ (m : (f : ℕ) × (None ≡ Some f) × (f ≤ j)). absurd (none-some _ m.1)) (missed j q)),
 )
 least_join P Q (Some x) (Some y) p found missed =
     let here : P (min x y) ⊎ Q (min x y) =
@@ -61,7 +61,7 @@ module _ (d : Demand) (es : List Entry) (os : List ℕ) where
 
   pub walked_end : (n : ℕ) (reach : List ℕ) (r : Option ℕ) → length es ≤ n → Walked n reach r → Least (Front d es os) r
   walked_end n reach r l w =
-      least_iff (Failing n) (Front d es os) (λ k s. (s.0, s.2)) (λ k f. (f.0, omega (arith, within es f.0 _ f.1.1), f.1)) r w.least
+      least_iff (Failing n) (Front d es os) (λ k s. (s.0, s.2)) (λ k f. (f.0, omega (arith, slice_get_within es f.0 _ f.1.1), f.1)) r w.least
 
   module _ (i : ℕ) (e : Entry) (at : slice_get es i ≡ Some e) (to : ℕ) (ends : to ≡ min (e.run.at + asked d e) (length os))
       (before after : List ℕ) (a b : Option ℕ) (w : Walked i before a) (s : Looked d i e.run.at to os before after b) where
@@ -82,7 +82,7 @@ module _ (d : Demand) (es : List Entry) (os : List ℕ) where
         let high = o.0.1 in
         let h = o.1.0 in
         let there = o.1.1 in
-        let inside = within os k h there in
+        let inside = slice_get_within os k h there in
         let read = slice_get-get_or os k 0 inside in
         let same : h ≡ get_or os k 0 = cc in
         let fails : Fails d i os k = subst (λ x. failing d i x ≡ true) same o.1.2 in

@@ -1,6 +1,7 @@
 -- One more place looked at.
 use Rattle.std.proofs.Common.{◌≡◌, ℕ, ◌+◌, ◌<◌, ◌≤◌, min, max, Bool, true, false, cond, ◌&&◌, leb, ◌≢◌, ◌⊎◌, List, length, get_or, set, Some, None, Option, sym, refl, ap, ◌∙◌, subst, inl, inr, ⊎_elim, arith, get_or-set_other, get_or-set_same}
-use Rattle.std.proofs.lemmas.Bool.{cases_lt, cases_eq, le-leb}
+use Rattle.std.proofs.lemmas.Bool.{cases_lt, cases_eq, le-leb, and_parts, and_from, false≢true}
+use Rattle.std.proofs.lemmas.Option.{none-some}
 use Rattle.places.specs.First.{lesser_of}
 use Rattle.operands.specs.declared.Demand.{Demand}
 use Rattle.operands.specs.Walk.{failing, Fails, Reached, Looked}
@@ -19,7 +20,7 @@ looking_start d i from to os before =
       low = omega arith;
       kept = λ p l. refl;
       reaches = λ q h. inl h;
-      found = λ f e. let z : ◌≡◌ {A = ℕ} 0 1 = cc in absurd (omega arith);
+      found = λ f e. absurd (none-some f e);
       missed = λ q l m. absurd (omega arith);
     }
 
@@ -35,40 +36,25 @@ looking_end d i from to os before after k r l s =
 abbrev pub here : Bool → ℕ → Option ℕ
 here b k = cond b (Some k) None
 
-some_same : (x y : ℕ) → ◌≡◌ {A = Option ℕ} (Some x) (Some y) → x ≡ y
-some_same x y e = cc
-
-never_some : {P : Type 0} (x : ℕ) → ◌≡◌ {A = Option ℕ} None (Some x) → P
-never_some x e = let z : ◌≡◌ {A = ℕ} 0 1 = cc in absurd (omega arith)
-
 -- what was found, or the place itself
 joined_found : (r : Option ℕ) (b : Bool) (k f : ℕ) → ((g : ℕ) → r ≡ Some g → g < k) → lesser_of r (here b k) ≡ Some f → (r ≡ Some f) ⊎ ((b ≡ true) × (f ≡ k))
-joined_found None true k f l e = inr (refl, sym (some_same k f e))
-joined_found None false k f l e = never_some f e
+joined_found None true k f l e = let s : f ≡ k = cc in inr (refl, s)
+joined_found None false k f l e = absurd (none-some f e)
 joined_found (Some g) true k f l e =
-    let m = l g refl in let same : g ≡ f = omega (arith, some_same (min g k) f e) in inl (ap Some same)
+    let m = l g refl in let least : min g k ≡ f = cc in let same : g ≡ f = omega arith in inl (ap Some same)
 joined_found (Some g) false k f l e = inl e
 
 -- what was found before is still found, no later
 joined_before : (r : Option ℕ) (b : Bool) (k f : ℕ) → r ≡ Some f → (g : ℕ) × (lesser_of r (here b k) ≡ Some g) × (g ≤ f)
-joined_before None b k f e = never_some f e
-joined_before (Some x) true k f e = let s = some_same x f e in (min x k, refl, omega arith)
-joined_before (Some x) false k f e = let s = some_same x f e in (x, refl, omega arith)
+joined_before None b k f e = absurd (none-some f e)
+joined_before (Some x) true k f e = let s : x ≡ f = cc in (min x k, refl, omega arith)
+joined_before (Some x) false k f e = let s : x ≡ f = cc in (x, refl, omega arith)
 
 -- the place itself is found, or an earlier one
 joined_here : (r : Option ℕ) (b : Bool) (k : ℕ) → b ≡ true → (g : ℕ) × (lesser_of r (here b k) ≡ Some g) × (g ≤ k)
 joined_here None true k t = (k, refl, omega arith)
 joined_here (Some x) true k t = (min x k, refl, omega arith)
-joined_here r false k t = let z : ◌≡◌ {A = ℕ} 0 1 = cc in absurd (omega arith)
-
-both : (a b : Bool) → a ≡ true → b ≡ true → (a && b) ≡ true
-both true true p q = refl
-both true false p q = q
-both false b p q = p
-
-second : (a b : Bool) → (a && b) ≡ true → b ≡ true
-second true b p = p
-second false b p = let z : ◌≡◌ {A = ℕ} 0 1 = cc in absurd (omega arith)
+joined_here r false k t = absurd (false≢true t)
 
 module _ (d : Demand) (i from to : ℕ) (os before after : List ℕ) (k : ℕ) (r : Option ℕ) (s : Looking d i from to os before after k r) where
   abbrev reach : ℕ
@@ -105,7 +91,7 @@ module _ (d : Demand) (i from to : ℕ) (os before after : List ℕ) (k : ℕ) (
       let e : q ≡ k = omega arith in
       let fails : failing d i (get_or os k 0) ≡ true = subst (λ p. Fails d i os p) e h in
       let low : leb reach k ≡ true = le-leb reach k (omega arith) in
-      let j = joined_here r _ k (both _ _ low fails) in inr (j.0, j.1, omega (arith, j.2)))
+      let j = joined_here r _ k (and_from _ _ low fails) in inr (j.0, j.1, omega (arith, j.2)))
       (cases_lt q reach))
       (cases_lt q k)
 
@@ -115,7 +101,7 @@ module _ (d : Demand) (i from to : ℕ) (os before after : List ℕ) (k : ℕ) (
       ⊎_elim (λ (h : r ≡ Some f). let g = s.found f h in (g.0, g.1, omega (arith, g.2), g.3))
       (λ (h : ((leb reach k && failing d i (get_or os k 0)) ≡ true) × (f ≡ k)).
       let same = h.1 in
-      (omega arith, omega arith, omega arith, subst (λ p. Fails d i os p) (sym same) (second _ _ h.0)))
+      (omega arith, omega arith, omega arith, subst (λ p. Fails d i os p) (sym same) ((and_parts _ _ h.0).1)))
       (joined_found r _ k f (λ g h. (s.found g h).2) e)
 
   pub looking_more : k < to → k < length after → Looking d i from to os before (set after k (max reach to)) (max reach (k + 1)) next

@@ -1,71 +1,134 @@
 -- The operands that have a slot.
-use Rattle.std.proofs.Common.{◌≡◌, ℕ, ◌+◌, ◌<◌, ◌≤◌, Bool, true, false, eqb, List, length, get_or, Some, None, Decides, Option, sym, refl, ◌∙◌, subst, arith}
-use Rattle.std.proofs.lemmas.Option.{slice_get-get_or}
-use Rattle.kinds.specs.declared.Slots.{Slots}
-use Rattle.kinds.specs.Kinds.{admitted, front_length_of, slot_at, needed_slot}
+use Rattle.std.proofs.Common.{◌≡◌, ℕ, zero, suc, ◌+◌, ◌<◌, ◌≤◌, min, Bool, true, false, eqb, ltb, ◌==◌, ◌⊎◌, List, [], ◌∷◌, length, get_or, drop, position, Some, None, Option, sym, refl, ap, ◌∙◌, subst, inl, inr, ⊎_elim, arith}
+use Rattle.std.specs.List.{slice_get, zip, position_or_len, cons_option, filter_map, reduce, fold}
+use Rattle.std.specs.Option.{option_map}
+use Rattle.std.proofs.lemmas.Bool.{cases_lt, cases_Bool, lt-ltb, le-ltb, and_parts, and_from, cond-true, cond-false, false≢true}
+use Rattle.std.proofs.lemmas.List.{drop_all}
+use Rattle.std.proofs.lemmas.List.Sums.{passes_at_first, fails_before_first}
+use Rattle.std.proofs.lemmas.Option.{slice_get-get_or, slice_get_past, slice_get_within, get_or_from_slice_get, none-some}
+use Rattle.kinds.specs.declared.Slot.{Slot}
+use Rattle.kinds.specs.declared.Slot.TheVariants.{Needed}
+use Rattle.kinds.specs.Kinds.{Row, needed_slot, needed_where, admitted, front_length_of, needed_slot_at}
 use Rattle.places.specs.First.{Least, Holds, lesser_of}
-use Rattle.places.proofs.Kit.{SomeBelow, least_iff, least_more, within}
+use Rattle.places.proofs.Kit.{least_iff, least_or}
 use Rattle.arena.specs.declared.entry.Entry.{Entry}
 use Rattle.operands.specs.declared.Sort.{Sort}
-use Rattle.operands.specs.Faults.{absent}
-use Rattle.operands.specs.Walk.{InSlots, InRow, InTail, Tail}
+use Rattle.operands.specs.Faults.{absent, slots_of}
+use Rattle.operands.specs.Walk.{lacks, place_in_slots, place_in_row, place_in_tail, InSlots, InRow, InTail, Tail}
 
--- what is said of an operand that is there, told by its number
-pub holds_here : (P : ℕ → Type 0) (os : List ℕ) (k : ℕ) → k < length os → P (get_or os k 0) → Holds (λ _ h. P h) os k
-holds_here P os k l p = (get_or os k 0, slice_get-get_or os k 0 l, p)
+-- slot j needs the operand there, and it is absent
+abbrev pub Lacks : List Slot → List ℕ → ℕ → Type 0
+Lacks ss hs j = (needed_where (slice_get ss j) ≡ true) × Holds (λ _ h. (h == absent) ≡ true) hs j
 
-pub here_holds : (P : ℕ → Type 0) (os : List ℕ) (k : ℕ) → Holds (λ _ h. P h) os k → P (get_or os k 0)
-here_holds P os k h =
-    let there = h.1 in let x = h.0 in let read = slice_get-get_or os k 0 (within os k x there) in let same : x ≡ get_or os k 0 = cc in subst P same h.2
+paired : (ss : List Slot) (hs : List ℕ) (j : ℕ) → Holds (λ _ p. lacks p ≡ true) (zip ss hs) j → Lacks ss hs j
+paired [] hs j v = absurd (none-some _ v.1)
+paired (s ∷ ss) [] j v = absurd (none-some _ v.1)
+paired (s ∷ ss) (h ∷ hs) zero v =
+    let here = v.1 in
+    let e : v.0 ≡ (s, h) = cc in
+    let b = and_parts (needed_slot s) (eqb h absent) (subst (λ p. lacks p ≡ true) e v.2) in
+    (b.0, (h, refl, b.1))
+paired (s ∷ ss) (h ∷ hs) (suc j) v = paired ss hs j v
 
-module _ (row : Slots) (from : ℕ) (os : List ℕ) where
-  -- slot j needs the operand there, and it is absent
-  abbrev pub Lacks : ℕ → Type 0
-  Lacks j = (needed_slot (slot_at row j) ≡ true) × Holds (λ _ h. eqb h absent ≡ true) os (from + j)
+unpaired : (ss : List Slot) (hs : List ℕ) (j : ℕ) → Lacks ss hs j → Holds (λ _ p. lacks p ≡ true) (zip ss hs) j
+unpaired [] hs j v = absurd (false≢true v.0)
+unpaired (s ∷ ss) [] j v = absurd (none-some _ v.1.1)
+unpaired (s ∷ ss) (h ∷ hs) zero v =
+    let there = v.1.1 in
+    let e : v.1.0 ≡ h = cc in
+    ((s, h), refl, and_from (needed_slot s) (eqb h absent) v.0 (subst (λ x. eqb x absent ≡ true) e v.1.2))
+unpaired (s ∷ ss) (h ∷ hs) (suc j) v = unpaired ss hs j v
 
-  pub slots_none : ((j : ℕ) → j < row.count → Lacks j → ⊥) → Least (InSlots row from os) None
-  slots_none h = λ k v. let e = v.2 in h v.0 v.1 (v.3, subst (Holds (λ _ h. eqb h absent ≡ true) os) e v.4)
+-- the first that passes is the least
+first_passing : (p : Slot × ℕ → Bool) (xs : List (Slot × ℕ)) → Least (Holds (λ _ x. p x ≡ true) xs) (position p xs)
+first_passing p xs =
+    ⊎_elim
+    (λ (l : position_or_len p xs < length xs).
+    subst (Least (Holds (λ _ x. p x ≡ true) xs)) (sym (cond-true (ltb (position_or_len p xs) (length xs)) (Some (position_or_len p xs)) None (lt-ltb _ _ l)))
+    ((get_or xs (position_or_len p xs) (Needed, 0), slice_get-get_or xs _ _ l, passes_at_first p xs _ l), λ j m. before j m))
+    (λ (l : length xs ≤ position_or_len p xs).
+    subst (Least (Holds (λ _ x. p x ≡ true) xs)) (sym (cond-false (ltb (position_or_len p xs) (length xs)) (Some (position_or_len p xs)) None (le-ltb _ _ l)))
+    (λ j h. before j (omega (arith, slice_get_within xs j h.0 h.1)) h))
+    (cases_lt (position_or_len p xs) (length xs))
+  where
+    before : (j : ℕ) → j < position_or_len p xs → Holds (λ _ x. p x ≡ true) xs j → ⊥
+    before j m h =
+        let at = h.1 in
+        let fails = fails_before_first p xs j (Needed, 0) m in
+        let read : get_or xs j (Needed, 0) ≡ h.0 = get_or_from_slice_get xs j h.0 (Needed, 0) at in
+        false≢true (sym fails ∙ ap p read ∙ h.2)
 
-  pub slots_some : (j : ℕ) → j < row.count → Lacks j → ((m : ℕ) → m < j → Lacks m → ⊥) → Least (InSlots row from os) (Some (from + j))
-  slots_some j l f h = (
-    (j, l, refl, f.0, f.1),
-    λ k m v. let e = v.2 in h v.0 (omega arith) (v.3, subst (Holds (λ _ h. eqb h absent ≡ true) os) e v.4),
+pub first_slot : (ss : List Slot) (hs : List ℕ) → Least (Lacks ss hs) (position lacks (zip ss hs))
+first_slot ss hs = least_iff (Holds (λ _ p. lacks p ≡ true) (zip ss hs)) (Lacks ss hs) (paired ss hs) (unpaired ss hs) _ (first_passing lacks (zip ss hs))
+
+after : (n : ℕ) (os : List ℕ) (k : ℕ) → slice_get (drop n os) k ≡ slice_get os (n + k)
+after zero os k = let e : zero + k ≡ k = omega arith in rw e refl
+after (suc n) [] k = refl
+after (suc n) (x ∷ os) k = let e : suc n + k ≡ suc (n + k) = omega arith in rw e (after n os k)
+
+without_operands : (ss : List Slot) → position lacks (zip ss []) ≡ None
+without_operands [] = refl
+without_operands (s ∷ ss) = refl
+
+-- no operand stands past the end
+pub none_after : (row : Row) (from : ℕ) (os : List ℕ) → length os ≤ from → place_in_slots row from os ≡ None
+none_after row from os l = ap (λ xs. option_map (λ j. from + j) (position lacks (zip row.slots xs))) (drop_all from os l) ∙ ap (option_map (λ j. from + j)) (without_operands row.slots)
+
+-- the slots from a place on
+module _ (row : Row) (from : ℕ) (os : List ℕ) where
+  lacks_there : (j k : ℕ) → k ≡ from + j → needed_slot_at row j ≡ true → Holds (λ _ h. (h == absent) ≡ true) os k → Lacks row.slots (drop from os) j
+  lacks_there j k e n h = let there = h.1 in (n, (h.0, after from os j ∙ ap (slice_get os) (sym e) ∙ there, h.2))
+
+  there_is_slot : (j : ℕ) → needed_where (slice_get row.slots j) ≡ true → j < length row.slots
+  there_is_slot j n =
+      ⊎_elim (λ l. l) (λ (l : length row.slots ≤ j). absurd (false≢true (sym (ap needed_where (slice_get_past row.slots j l)) ∙ n))) (cases_lt j (length row.slots))
+
+  moved : (r : Option ℕ) → Least (Lacks row.slots (drop from os)) r → Least (InSlots row from os) (option_map (λ k. from + k) r)
+  moved None h = λ k v. h v.0 (lacks_there v.0 k v.2 v.3 v.4)
+  moved (Some j) h = (
+    (j, there_is_slot j h.0.0, refl, h.0.0, (h.0.1.0, sym (after from os j) ∙ h.0.1.1, h.0.1.2)),
+    λ k l v. let e = v.2 in h.1 v.0 (omega arith) (lacks_there v.0 k v.2 v.3 v.4),
   )
 
--- one entry more
-pub tail_more : (sort : Sort) (es : List Entry) (os : List ℕ) (i : ℕ) (d : Entry) → i < length es → (a b r : Option ℕ) →
-    Least (SomeBelow i (λ j k. Holds (λ _ e. InTail sort os e k) es j)) a → Least (InTail sort os (get_or es i d)) b → r ≡ lesser_of a b →
-    Least (SomeBelow (i + 1) (λ j k. Holds (λ _ e. InTail sort os e k) es j)) r
-tail_more sort es os i d l a b r p q e =
-    let at = slice_get-get_or es i d l in
-    rw e (least_more (λ j k. Holds (λ _ e. InTail sort os e k) es j) i a b p
-    (least_iff (InTail sort os (get_or es i d)) (λ k. Holds (λ _ e. InTail sort os e k) es i) (λ k f. (get_or es i d, at, f))
-    (λ k h. let there = h.1 in let x = h.0 in let same : x ≡ get_or es i d = cc in subst (λ y. InTail sort os y k) same h.2) b q))
+  pub least_slot : Least (InSlots row from os) (place_in_slots row from os)
+  least_slot = moved _ (first_slot row.slots (drop from os))
 
-pub tail_all : (sort : Sort) (es : List Entry) (os : List ℕ) (n : ℕ) → length es ≤ n → (r : Option ℕ) →
-    Least (SomeBelow n (λ j k. Holds (λ _ e. InTail sort os e k) es j)) r → Least (Tail sort es os) r
-tail_all sort es os n l =
-    least_iff (SomeBelow n (λ j k. Holds (λ _ e. InTail sort os e k) es j)) (Tail sort es os)
-    (λ k s. (s.0, s.2)) (λ k w. (w.0, omega (arith, within es w.0 _ w.1.1), w.1))
+-- the least of an entry
+least_of_row : (o : Option Row) (os : List ℕ) (e : Entry) → Least (InRow o os e) (place_in_row o os e)
+least_of_row None os e = λ k s. s
+least_of_row (Some row) os e =
+    let from = e.run.at + front_length_of row e.run.len in
+    ⊎_elim
+    (λ (a : admitted row e.run.len ≡ true).
+    subst (Least (InRow (Some row) os e)) (sym (cond-true (admitted row e.run.len) (place_in_slots row from os) None a))
+    (least_iff (InSlots row from os) (InRow (Some row) os e) (λ k s. (a, s)) (λ k s. s.1) _ (least_slot row from os)))
+    (λ (a : admitted row e.run.len ≡ false).
+    subst (Least (InRow (Some row) os e)) (sym (cond-false (admitted row e.run.len) (place_in_slots row from os) None a)) (λ k s. false≢true (sym a ∙ s.0)))
+    (cases_Bool (admitted row e.run.len))
 
-no : {P : Type 0} → ◌≡◌ {A = Bool} false true → P
-no e = let z : ◌≡◌ {A = ℕ} 0 1 = cc in absurd (omega arith)
+-- ---- the least of some entry
 
-pub absent_there : (os : List ℕ) (k : ℕ) → k < length os → Decides (eqb (get_or os k 0) absent) (Holds (λ _ h. eqb h absent ≡ true) os k)
-absent_there os k l = (holds_here (λ h. eqb h absent ≡ true) os k l, here_holds (λ h. eqb h absent ≡ true) os k)
+min_first : (x y : ℕ) (ns : List ℕ) → fold min x (y ∷ ns) ≡ min x (fold min y ns)
+min_first x y [] = refl
+min_first x y (n ∷ ns) = let e : min (min x y) n ≡ min x (min y n) = omega arith in ap (λ m. fold min m ns) e ∙ min_first x (min y n) ns
 
-pub absent_past : (os : List ℕ) (k : ℕ) → length os ≤ k → Decides false (Holds (λ _ h. eqb h absent ≡ true) os k)
-absent_past os k l = (λ t. no t, λ h. absurd (omega (arith, within os k h.0 h.1)))
+reduced : (o : Option ℕ) (ns : List ℕ) → reduce min (cons_option o ns) ≡ lesser_of o (reduce min ns)
+reduced None ns = refl
+reduced (Some x) [] = refl
+reduced (Some x) (y ∷ ns) = ap Some (min_first x y ns)
 
--- a row that is known
-pub in_row : (o : Option Slots) (row : Slots) (os : List ℕ) (e : Entry) → o ≡ Some row → admitted row e.run.len ≡ true → (r : Option ℕ) →
-    Least (InSlots row (e.run.at + front_length_of row e.run.len) os) r → Least (InRow o os e) r
-in_row o row os e p a r h =
-    subst (λ x. Least (InRow x os e) r) (sym p)
-    (least_iff (InSlots row (e.run.at + front_length_of row e.run.len) os) (InRow (Some row) os e) (λ k s. (a, s)) (λ k s. s.1) r h)
+module _ (P : Entry → ℕ → Type 0) (F : Entry → Option ℕ) (least : (e : Entry) → Least (P e) (F e)) where
+  split_first : (e : Entry) (es : List Entry) (k i : ℕ) → Holds (λ _ e. P e k) (e ∷ es) i → P e k ⊎ ((j : ℕ) × Holds (λ _ e. P e k) es j)
+  split_first e es k zero h = let at = h.1 in let q : h.0 ≡ e = cc in inl (subst (λ x. P x k) q h.2)
+  split_first e es k (suc i) h = inr (i, h)
 
-pub no_row : (o : Option Slots) (os : List ℕ) (e : Entry) → o ≡ None → Least (InRow o os e) None
-no_row o os e p = subst (λ x. Least (InRow x os e) None) (sym p) (λ k s. s)
+  pub least_of_all : (es : List Entry) → Least (λ k. (i : ℕ) × Holds (λ _ e. P e k) es i) (reduce min (filter_map F es))
+  least_of_all [] = λ k w. absurd (none-some _ w.1.1)
+  least_of_all (e ∷ es) =
+      let rest : ℕ → Type 0 = λ k. (i : ℕ) × Holds (λ _ e. P e k) es i in
+      rw (reduced (F e) (filter_map F es))
+      (least_iff (λ k. P e k ⊎ rest k) (λ k. (i : ℕ) × Holds (λ _ e. P e k) (e ∷ es) i) (λ k. ⊎_elim (λ p. (0, (e, refl, p))) (λ w. (suc w.0, w.1)))
+      (λ k w. split_first e es k w.0 w.1) _ (least_or (P e) rest (F e) (reduce min (filter_map F es)) (least e) (least_of_all es)))
 
-pub no_count : (o : Option Slots) (row : Slots) (os : List ℕ) (e : Entry) → o ≡ Some row → admitted row e.run.len ≡ false → Least (InRow o os e) None
-no_count o row os e p a = subst (λ x. Least (InRow x os e) None) (sym p) (λ k s. no (sym a ∙ s.0))
+pub least_of_tails : (sort : Sort) (es : List Entry) (os : List ℕ) → Least (Tail sort es os) (reduce min (filter_map (place_in_tail sort os) es))
+least_of_tails sort es os = least_of_all (λ e. InTail sort os e) (place_in_tail sort os) (λ e. least_of_row (slots_of sort e.kind) os e) es

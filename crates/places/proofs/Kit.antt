@@ -1,13 +1,14 @@
 -- Least and first places put together.
-use Rattle.std.proofs.Common.{◌≡◌, ℕ, zero, suc, ◌+◌, ◌<◌, ◌≤◌, min, ◌⊎◌, List, [], ◌∷◌, length, get_or, take, Some, None, Option, sym, refl, ap, ◌∙◌, subst, inl, inr, ⊎_elim, arith, lit<}
-use Rattle.std.proofs.lemmas.List.{length-take}
+use Rattle.std.proofs.Common.{◌≡◌, ℕ, zero, suc, ◌+◌, ◌<◌, ◌≤◌, min, ◌⊎◌, List, [], ◌∷◌, length, get_or, take, Some, None, Option, sym, refl, ◌∙◌, subst, inl, inr, ⊎_elim, arith, zero-add}
+use Rattle.std.proofs.lemmas.List.{length-take, get_or-map}
+use Rattle.std.proofs.lemmas.List.FromFn.{get_or-range_with_len}
+use Rattle.std.specs.Option.{option_or}
 use Rattle.std.specs.List.{slice_get}
 use Rattle.std.proofs.lemmas.Bool.{cases_lt}
-use Rattle.std.proofs.lemmas.Option.{slice_get-get_or, slice_get_past}
-use Rattle.places.specs.declared.Place.{Place}
+use Rattle.std.proofs.lemmas.Option.{slice_get_past}
 use Rattle.places.specs.declared.TableName.{TableName}
 use Rattle.places.specs.declared.TableName.TheVariants.{GlobalEntries, GlobalOperands, Constants, Overrides, VariableInits, BodyEntries, BodyOperands, Records, RecordOperands, LocalInits, NamedHandles, Sizes, HandleTable, OverridesConstants, Kinds}
-use Rattle.places.specs.First.{Least, Holds, Over, Clean, First, lesser_of, number_of}
+use Rattle.places.specs.First.{Least, Holds, Over, lesser_of, number_of}
 
 -- some item below n brings F at k
 abbrev pub SomeBelow : ℕ → (ℕ → ℕ → Type 0) → ℕ → Type 0
@@ -50,42 +51,18 @@ pub clear_more : (F : ℕ → ℕ → Type 0) (t : ℕ) → Clear F t → Least 
 clear_more F t c h s i l f =
     ⊎_elim (λ (m : s < t). c s i m f) (λ (m : t ≤ s). let e : s ≡ t = omega arith in h i (subst (λ u. F u i) e f)) (cases_lt s t)
 
--- every table has a number below 15
-pub numbered : (t : TableName) → number_of t < 15
-numbered GlobalEntries = lit< tt
-numbered GlobalOperands = lit< tt
-numbered Constants = lit< tt
-numbered Overrides = lit< tt
-numbered VariableInits = lit< tt
-numbered BodyEntries = lit< tt
-numbered BodyOperands = lit< tt
-numbered Records = lit< tt
-numbered RecordOperands = lit< tt
-numbered LocalInits = lit< tt
-numbered NamedHandles = lit< tt
-numbered Sizes = lit< tt
-numbered HandleTable = lit< tt
-numbered OverridesConstants = lit< tt
-numbered Kinds = lit< tt
+-- the tables in the order of their numbers
+abbrev pub tables : List TableName
+tables =
+    GlobalEntries ∷ GlobalOperands ∷ Constants ∷ Overrides ∷ VariableInits ∷ BodyEntries ∷ BodyOperands ∷ Records ∷ RecordOperands ∷ LocalInits ∷ NamedHandles ∷ Sizes ∷ HandleTable ∷ OverridesConstants ∷ Kinds ∷ []
 
-pub clear_clean : (F : ℕ → ℕ → Type 0) → Clear F 15 → Clean F
-clear_clean F c p = c (number_of p.table) p.index (numbered p.table)
+pub number_at : (i : ℕ) → i < 15 → number_of (get_or tables i GlobalEntries) ≡ i
+number_at i l = sym (get_or-map number_of tables i GlobalEntries 0 l) ∙ get_or-range_with_len 0 15 i 0 l ∙ zero-add i
 
-pub first_here : (F : ℕ → ℕ → Type 0) (p : Place) → Clear F (number_of p.table) → Least (F (number_of p.table)) (Some p.index) → First F p
-first_here F p c h =
-    (h.0, λ q. ⊎_elim (λ l. c (number_of q.table) q.index l) (λ e f. h.1 q.index e.1 (subst (λ u. F u q.index) e.0 f)))
-
--- an element that was read stands in the list
-pub stands : {A : Type 0} (xs : List A) (i : ℕ) (x : A) → i < length xs → x ≡ get_or xs i x → slice_get xs i ≡ Some x
-stands xs i x l e = slice_get-get_or xs i x l ∙ ap Some (sym e)
-
+-- what stands in a list stands below its length
 pub within : {A : Type 0} (xs : List A) (i : ℕ) (x : A) → slice_get xs i ≡ Some x → i < length xs
 within xs i x e =
     ⊎_elim (λ l. l) (λ (m : length xs ≤ i). let p = slice_get_past xs i m in let z : ◌≡◌ {A = ℕ} 0 1 = cc in absurd (omega arith)) (cases_lt i (length xs))
-
--- what was read there is not bad, so nothing there is
-pub not_here : {A : Type 0} (P : ℕ → A → Type 0) (xs : List A) (i : ℕ) (x : A) → slice_get xs i ≡ Some x → (P i x → ⊥) → Holds P xs i → ⊥
-not_here P xs i x e n h = let f = h.1 in let y = h.0 in let q : y ≡ x = cc in n (subst (P i) q h.2)
 
 -- what stands below a limit stands in the first items
 pub nth_take : {A : Type 0} (l : ℕ) (xs : List A) (k : ℕ) → k < l → slice_get (take l xs) k ≡ slice_get xs k
@@ -136,6 +113,11 @@ module _ (P Q : ℕ → Type 0) (limit n : ℕ) (c : Cut P Q limit n) where
       (λ (l : limit ≤ k). o limit (refl, omega (arith, c.high k q))) (cases_lt k limit))
   limited_none h (Some m) o =
       (inl o.0, λ j l. ⊎_elim (λ v. absurd (omega (arith, v.0, o.0.0))) (λ q. h j (c.out j (omega (arith, o.0.0)) q)))
+
+  -- the first below the limit, or else the limit itself
+  pub limited_or : (a b : Option ℕ) → Least P a → Least (Over limit n) b → Least (λ k. Over limit n k ⊎ Q k) (option_or a b)
+  limited_or None b h o = limited_none h b o
+  limited_or (Some k) b h o = limited_some k h
 
 -- the least in a table that is known by its number
 pub in_table : (F : ℕ → ℕ → Type 0) {t u : ℕ} → t ≡ u → (r : Option ℕ) → Least (F u) r → Least (F t) r

@@ -8,7 +8,7 @@ ghost use Rattle.std.specs.Prelude.{◌≡◌, ℕ, ◌<◌, ◌⊎◌, length, 
 ghost use Rattle.places.specs.First.{Least, Holds, Over, Checked, lesser_of, number_of};
 
 // The tables of a module, of a body and of a settling, numbered from 0 in this order.
-#[derive(Clone, Copy, PartialEq, Debug)]
+#[derive(Clone, Copy, PartialEq, Eq, Debug)]
 pub enum TableName {
     GlobalEntries,
     GlobalOperands,
@@ -28,54 +28,34 @@ pub enum TableName {
 }
 
 impl TableName {
+    // In the order of their numbers.
+    const ALL: [TableName; 15] = [
+        TableName::GlobalEntries,
+        TableName::GlobalOperands,
+        TableName::Constants,
+        TableName::Overrides,
+        TableName::VariableInits,
+        TableName::BodyEntries,
+        TableName::BodyOperands,
+        TableName::Records,
+        TableName::RecordOperands,
+        TableName::LocalInits,
+        TableName::NamedHandles,
+        TableName::Sizes,
+        TableName::HandleTable,
+        TableName::OverridesConstants,
+        TableName::Kinds,
+    ];
+
     pub fn number(self) -> u8
         ensures { result ≡ number_of self }
     {
-        match self {
-            TableName::GlobalEntries => 0,
-            TableName::GlobalOperands => 1,
-            TableName::Constants => 2,
-            TableName::Overrides => 3,
-            TableName::VariableInits => 4,
-            TableName::BodyEntries => 5,
-            TableName::BodyOperands => 6,
-            TableName::Records => 7,
-            TableName::RecordOperands => 8,
-            TableName::LocalInits => 9,
-            TableName::NamedHandles => 10,
-            TableName::Sizes => 11,
-            TableName::HandleTable => 12,
-            TableName::OverridesConstants => 13,
-            TableName::Kinds => 14,
-        }
-    }
-
-    // The table of a number; of one that no table has, the last.
-    fn numbered(number: u8) -> TableName
-        ensures { number < 15 → number_of result ≡ number }
-    {
-        match number {
-            0 => TableName::GlobalEntries,
-            1 => TableName::GlobalOperands,
-            2 => TableName::Constants,
-            3 => TableName::Overrides,
-            4 => TableName::VariableInits,
-            5 => TableName::BodyEntries,
-            6 => TableName::BodyOperands,
-            7 => TableName::Records,
-            8 => TableName::RecordOperands,
-            9 => TableName::LocalInits,
-            10 => TableName::NamedHandles,
-            11 => TableName::Sizes,
-            12 => TableName::HandleTable,
-            13 => TableName::OverridesConstants,
-            _ => TableName::Kinds,
-        }
+        self as u8
     }
 }
 
 // An index in a table.
-#[derive(Clone, Copy, PartialEq, Debug)]
+#[derive(Clone, Copy, PartialEq, Eq, Debug)]
 pub struct Place {
     pub table: TableName,
     pub index: usize,
@@ -87,12 +67,11 @@ pub fn lesser(a: Option<usize>, b: Option<usize>) -> Option<usize>
 {
     match (a, b) {
         (Some(x), Some(y)) => Some(x.min(y)),
-        (Some(x), None) => Some(x),
-        (None, o) => o,
+        _ => a.or(b),
     }
 }
 
-// What makes an item of a table bad.
+// What makes an item of a table bad. It is a trait, since a closure says what it may answer, and not by which fact.
 pub trait Test<T> {
     ghost bad: { Self → ℕ → T → Type 0 };
 
@@ -104,41 +83,31 @@ pub trait Test<T> {
 pub fn first_bad<T, Q: Test<T>>(items: &[T], test: &Q) -> Option<usize>
     ensures { Least (Holds (Q.bad test.now) items.now) result }
 {
-    for (i, item) in items.iter().enumerate() {
-        if test.bad(i, item) {
-            return Some(i);
-        }
-    }
-    None
+    items
+        .iter()
+        .enumerate()
+        .position(|(i, item)| test.bad(i, item))
 }
 
 // The limit of a table that is over it.
 pub fn over(limit: usize, len: usize) -> Option<usize>
     ensures { Least (Over limit len) result }
 {
-    if len > limit { Some(limit) } else { None }
+    (len > limit).then_some(limit)
 }
 
 // The items below a limit.
 pub fn up_to<T>(limit: usize, items: &[T]) -> &[T]
     ensures { result.now ≡ take limit items.now }
 {
-    if limit < items.len() {
-        &items[0..limit]
-    } else {
-        items
-    }
+    &items[..limit.min(items.len())]
 }
 
 // The index of the first bad item, or the limit of a table that is over it. No item past the limit is looked at.
 pub fn limited<T, Q: Test<T>>(limit: usize, items: &[T], test: &Q) -> Option<usize>
     ensures { Least (λ k. Over limit (length items.now) k ⊎ Holds (Q.bad test.now) items.now k) result }
 {
-    let looked_at = up_to(limit, items);
-    match first_bad(looked_at, test) {
-        Some(i) => Some(i),
-        None => over(limit, items.len()),
-    }
+    first_bad(up_to(limit, items), test).or(over(limit, items.len()))
 }
 
 // A module's or a body's faults of one sort, by table.
@@ -153,8 +122,7 @@ pub trait Faults {
 pub fn check<F: Faults>(faults: &F) -> Result<(), Place>
     ensures { Checked (F.at faults.now) result }
 {
-    for number in 0..15u8 {
-        let table = TableName::numbered(number);
+    for table in TableName::ALL {
         if let Some(index) = faults.least_in(table) {
             return Err(Place { table, index });
         }

@@ -2,11 +2,12 @@
 use Rattle.std.proofs.Common.{◌≡◌, ℕ, zero, suc, ◌+◌, ◌<◌, ◌≤◌, List, [], ◌∷◌, ◌++◌, length, take, drop, Some, None, Option, sym, refl, ap, ◌∙◌, subst, inl, inr, ⊎_elim, arith}
 use Rattle.std.specs.List.{slice_get}
 use Rattle.std.proofs.lemmas.List.{take_all}
+use Rattle.std.proofs.lemmas.Option.{slice_get_within}
 use Rattle.arena.specs.Nodes.{Node}
 use Rattle.blocks.specs.declared.Role.TheVariants.{Opening}
 use Rattle.blocks.specs.Blocks.{role_given_to, OneBlock, Viable, opened, closed, Fault, Blocked}
 use Rattle.blocks.specs.Stack.{step, stepped, run}
-use Rattle.blocks.proofs.Parts.{nothing, split, front, place_below, one_more}
+use Rattle.blocks.proofs.Parts.{nothing, split, front, one_more}
 use Rattle.blocks.proofs.Trees.{run_append, is_one_block, runs_through}
 use Rattle.blocks.proofs.Ways.{taken, step_grows, refused, first_part, agree, height, viable}
 
@@ -68,7 +69,7 @@ clean rs i s l r j m (inl b) =
 -- records that are one block have no fault
 faultless : (rs : List Node) (k : ℕ) (s : List ℕ) → run 64 start (take (length rs) rs) ≡ Some s → OneBlock rs 64 → Fault rs k → ⊥
 faultless rs k s r o (inr q) = q.1 64 o
-faultless rs k s r o (inl b) = clean rs (length rs) s (omega arith) r k (place_below rs k b.0 b.1) (inl b)
+faultless rs k s r o (inl b) = clean rs (length rs) s (omega arith) r k (slice_get_within rs k b.0 b.1) (inl b)
 
 pub stopped : (rs : List Node) (j k : ℕ) (e : Node) (s : List ℕ) → j ≤ length rs → slice_get rs j ≡ Some e → run 64 start (take j rs) ≡ Some s →
     step 64 (role_given_to e) s ≡ None → j ≡ k → Blocked rs (Some k)

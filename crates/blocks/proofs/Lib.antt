@@ -2,5 +2,4 @@ pub mod Parts
 pub mod Trees
 pub mod Ways
 pub mod Faults
-pub mod Held
 pub mod Depths

@@ -1,6 +1,6 @@
 -- Blocks read one record after the other. A stack has, for each open block from the innermost and last for the whole body, how many
 -- blocks are still to come there. It begins as 1, and ends as 0.
-use Rattle.std.specs.Prelude.{◌≡◌, ℕ, zero, suc, ◌≤◌, Bool, true, false, cond, List, [], ◌∷◌, length, Some, None, Option, nat_lt, slice_index}
+use Rattle.std.specs.Prelude.{◌≡◌, ℕ, zero, suc, cond, List, [], ◌∷◌, length, reverse, Some, None, Option, nat_lt}
 use Rattle.arena.specs.Nodes.{Node}
 use Rattle.blocks.specs.declared.Role.{Role}
 use Rattle.blocks.specs.declared.Role.TheVariants.{Opening, Closing, Doing}
@@ -31,22 +31,10 @@ run limit o (e ∷ es) = run limit (stepped limit e o) es
 
 -- ---- the stack as the program holds it
 
-abbrev pub below : List ℕ → ℕ → List ℕ
-below owed zero = []
-below owed (suc d) = slice_index owed d ∷ below owed d
-
 abbrev pub stack : Nest → List ℕ
-stack n = slice_index n.owed n.depth ∷ below n.owed n.depth
-
-pub record Sound (n : Nest) : Type 0 where
-  pub shallow : n.depth ≤ 64
-  pub long : length n.owed ≡ 65
-
--- the body owes nothing more
-abbrev pub Finished : Nest → Type 0
-Finished n = (n.depth ≡ 0) × (slice_index n.owed 0 ≡ 0)
+stack n = n.owed ∷ reverse n.around.items
 
 -- a record was taken, or refused
-abbrev pub Taken : Role → Nest → Nest → Bool → Type 0
-Taken r n m true = Sound m × (step 64 r (stack n) ≡ Some (stack m))
-Taken r n m false = step 64 r (stack n) ≡ None
+abbrev pub Taken : Role → Nest → Nest → Option Unit → Type 0
+Taken r n m (Some _) = step 64 r (stack n) ≡ Some (stack m)
+Taken r n m None = step 64 r (stack n) ≡ None

@@ -7,14 +7,12 @@ ghost use Rattle.arena.specs.Nodes.{nodes};
 ghost use Rattle.blocks.specs.declared.Role.TheVariants.{Opening, Closing, Doing};
 ghost use Rattle.blocks.specs.Blocks.{blocks_after_of, role_by, opens, closes, Blocked};
 ghost use Rattle.blocks.specs.Depth.{Deepest};
-ghost use Rattle.blocks.specs.Stack.{stack, Sound, Finished, Taken};
+ghost use Rattle.blocks.specs.Stack.{stack, Taken};
 ghost use Rattle.blocks.specs.Examples.{Examples};
 
 use arena::Entry;
-
-const OPEN: u8 = 23;
-
-const CLOSE: u8 = 24;
+use arrayvec::ArrayVec;
+use kinds::Statement;
 
 // How many blocks may be open at once.
 const MAX_DEPTH: usize = 64;
@@ -32,108 +30,90 @@ impl Role {
     fn opens(self) -> usize
         ensures { result ≡ opens self }
     {
-        match self {
-            Role::Opening => 1,
-            Role::Closing | Role::Doing(_) => 0,
-        }
+        usize::from(matches!(self, Role::Opening))
     }
 
     // How many blocks it closes.
     fn closes(self) -> usize
         ensures { result ≡ closes self }
     {
-        match self {
-            Role::Closing => 1,
-            Role::Opening | Role::Doing(_) => 0,
-        }
+        usize::from(matches!(self, Role::Closing))
     }
 }
 
 // How many blocks stand after a record of a kind whose word 0 is this; an unknown kind asks for none.
+#[tactic(auto, unfolding(crate::specs::Blocks::blocks_after_of))]
 pub fn blocks_after(kind: u8, word: u32) -> u32
     ensures { result ≡ blocks_after_of kind word }
 {
-    match kinds::record_kind(kind) {
-        Some(row) => row.after.blocks(word),
-        None => 0,
-    }
+    kinds::record_kind(kind).map_or(0, |row| row.after.blocks(word))
 }
 
 pub fn role_of(record: &Entry) -> Role
     ensures { result ≡ role_by «record».now.kind (slice_index_or «record».now.words 0 0) }
 {
-    match record.kind {
-        OPEN => Role::Opening,
-        CLOSE => Role::Closing,
-        kind => Role::Doing(blocks_after(kind, record.words[0])),
+    match Statement::try_from(record.kind) {
+        Ok(Statement::Open) => Role::Opening,
+        Ok(Statement::Close) => Role::Closing,
+        _ => Role::Doing(blocks_after(record.kind, record.words[0])),
     }
 }
 
-// For each open block, and below them for the body, how many blocks are still to come there.
+// How many blocks are still to come in the innermost open block, and in each around it from the outermost on, the body being first.
 #[derive(Drop)]
 struct Nest {
-    depth: usize,
-    owed: [u32; 65],
+    owed: u32,
+    around: ArrayVec<u32, MAX_DEPTH>,
 }
 
 impl Nest {
     // The body owes one block.
     fn new() -> Nest
-        ensures { Sound result × (stack result ≡ 1 ∷ []) }
+        ensures { stack result ≡ 1 ∷ [] }
     {
-        let mut owed = [0; 65];
-        owed[0] = 1;
-        Nest { depth: 0, owed }
+        Nest {
+            owed: 1,
+            around: ArrayVec::new(),
+        }
     }
 
     fn done(&self) -> bool
-        requires { Sound self.now }
-        ensures { Decides result (Finished self.now) }
+        ensures { Decides result (stack self.now ≡ 0 ∷ []) }
     {
-        self.depth == 0 && self.owed[0] == 0
+        self.owed == 0 && self.around.is_empty()
     }
 
-    fn open(&mut self) -> bool
-        requires { Sound self.old }
+    fn open(&mut self) -> Option<()>
         ensures { Taken Opening self.old self.new result }
     {
-        let depth = self.depth;
-        let due = self.owed[depth];
-        if due == 0 || depth >= MAX_DEPTH {
-            return false;
-        }
-        self.owed[depth] = due - 1;
-        self.owed[depth + 1] = 0;
-        self.depth = depth + 1;
-        true
+        let rest = self.owed.checked_sub(1)?;
+        self.around.try_push(rest).ok()?;
+        self.owed = 0;
+        Some(())
     }
 
-    fn close(&mut self) -> bool
-        requires { Sound self.old }
+    fn close(&mut self) -> Option<()>
         ensures { Taken Closing self.old self.new result }
     {
-        let depth = self.depth;
-        if self.owed[depth] != 0 || depth == 0 {
-            return false;
+        if self.owed != 0 {
+            return None;
         }
-        self.depth = depth - 1;
-        true
+        self.owed = self.around.pop()?;
+        Some(())
     }
 
-    fn ask(&mut self, count: u32) -> bool
-        requires { Sound self.old }
+    fn ask(&mut self, count: u32) -> Option<()>
         ensures { Taken (Doing count) self.old self.new result }
     {
-        let depth = self.depth;
-        if self.owed[depth] != 0 || depth == 0 {
-            return false;
+        if self.owed != 0 || self.around.is_empty() {
+            return None;
         }
-        self.owed[depth] = count;
-        true
+        self.owed = count;
+        Some(())
     }
 
-    fn take(&mut self, role: Role) -> bool
-        requires { Sound self.old }
+    // Takes a record, if it may stand there.
+    fn take(&mut self, role: Role) -> Option<()>
         ensures { Taken role self.old self.new result }
     {
         match role {
@@ -150,7 +130,7 @@ pub fn check_blocks(records: &[Entry]) -> Option<usize>
 {
     let mut nest = Nest::new();
     for (i, record) in records.iter().enumerate() {
-        if !nest.take(role_of(record)) {
+        if nest.take(role_of(record)).is_none() {
             return Some(i);
         }
     }
@@ -168,7 +148,7 @@ pub fn deepest(records: &[Entry]) -> usize
     let mut opened: usize = 0;
     let mut closed: usize = 0;
     let mut deepest: usize = 0;
-    for (i, record) in records.iter().enumerate() {
+    for record in records {
         let role = role_of(record);
         opened += role.opens();
         closed += role.closes();

@@ -1,15 +1,17 @@
 -- From what was looked at to what is wrong.
-use Rattle.std.proofs.Common.{◌≡◌, ℕ, ◌+◌, ◌-◌, ◌<◌, ◌≤◌, true, false, cond, eqb, ltb, leb, ◌⊎◌, List, length, take, Some, None, Option, sym, ap, ◌∙◌, subst, inl, inr, ⊎_elim, arith}
+use Rattle.std.proofs.Common.{◌≡◌, ℕ, ◌+◌, ◌-◌, ◌<◌, ◌≤◌, min, true, false, cond, eqb, ltb, leb, ◌⊎◌, List, length, take, Some, None, Option, sym, ap, ◌∙◌, subst, inl, inr, ⊎_elim, arith}
+use Rattle.std.specs.List.{filter_map, reduce}
 use Rattle.std.proofs.lemmas.Bool.{cases_lt, cases_Bool, leb-true, eqb-true, lt-ltb, le-ltb, and_parts, and_from, cond-true, cond-false, false≢true}
 use Rattle.kinds.specs.Kinds.{Row, count, admitted, front_length_of, needed_slot_at}
 use Rattle.places.specs.First.{Least, Holds, lesser_of}
+use Rattle.operands.proofs.Tails.{least_of_tails}
 use Rattle.places.proofs.Kit.{least_iff, least_or, cut_in, cut_out, Cut, in_take, within}
 use Rattle.arena.specs.declared.entry.Entry.{Entry}
 use Rattle.operands.specs.declared.Sort.{Sort}
 use Rattle.operands.specs.declared.Demand.TheVariants.{Present, BelowOwn, Below}
 use Rattle.operands.specs.Faults.{absent, slots_of, needed_at, needed, lacking, out_of_range_of}
 use Rattle.operands.specs.Operands.{Fault, InRun, Wrong, Lacking, NotBelow, Beyond}
-use Rattle.operands.specs.Walk.{fronted, InFront, Front, InRow, InTail, Tail}
+use Rattle.operands.specs.Walk.{fronted, place_in_tail, InFront, Front, InRow, InTail, Tail}
 
 -- what holds of an entry of the list, if it follows from another
 pub holds_map : {A : Type 0} (P Q : ℕ → A → Type 0) → ((i : ℕ) (x : A) → P i x → Q i x) → (xs : List A) (i : ℕ) → Holds P xs i → Holds Q xs i
@@ -155,7 +157,8 @@ wrong_cut F limit es os =
 
 -- both searches below the limit, over a list that is cut there
 pub least_of_both : (sort : Sort) (limit : ℕ) (es : List Entry) (os cut : List ℕ) (a b r : Option ℕ) → Least (Front (Present sort) es (take limit os)) a →
-    cut ≡ take limit os → Least (Tail sort es cut) b → r ≡ lesser_of a b → Least (Lacking sort es (take limit os)) r
+    cut ≡ take limit os → b ≡ reduce min (filter_map (place_in_tail sort cut) es) → r ≡ lesser_of a b → Least (Lacking sort es (take limit os)) r
 least_of_both sort limit es os cut a b r p e q f =
     front_and_tail sort es (take limit os) r
-    (rw f (least_or (Front (Present sort) es (take limit os)) (Tail sort es (take limit os)) a b p (subst (λ xs. Least (Tail sort es xs) b) e q)))
+    (rw f (least_or (Front (Present sort) es (take limit os)) (Tail sort es (take limit os)) a b p
+    (rw (q ∙ ap (λ xs. reduce min (filter_map (place_in_tail sort xs) es)) e) (least_of_tails sort es (take limit os)))))

@@ -1,6 +1,8 @@
 -- Looking at each place once. An operand that is right for an entry is right for every later one, so a place that an earlier run
 -- has covered is passed over, and a place's reach says up to where all is covered.
-use Rattle.std.specs.Prelude.{◌≡◌, ℕ, ◌+◌, ◌<◌, ◌≤◌, Bool, true, cond, ◌&&◌, ◌⊎◌, List, Some, None, Option, ◌==◌, slice_index}
+use Rattle.std.specs.Prelude.{◌≡◌, ℕ, ◌+◌, ◌<◌, ◌≤◌, Bool, true, cond, ◌&&◌, ◌⊎◌, List, Some, None, Option, ◌==◌, slice_index, drop, position}
+use Rattle.std.specs.List.{zip}
+use Rattle.std.specs.Option.{option_map}
 use Rattle.kinds.specs.declared.Slot.{Slot}
 use Rattle.kinds.specs.Kinds.{needed_slot, Row, count, admitted, front_length_of, needed_slot_at}
 use Rattle.places.specs.First.{Holds}
@@ -56,6 +58,17 @@ pub record Looked (d : Demand) (i from to : ℕ) (os before after : List ℕ) (r
 -- a slot needs its operand, which is absent
 abbrev pub lacks : Slot × ℕ → Bool
 lacks p = needed_slot p.0 && (p.1 == absent)
+
+-- the first place, of those that have a slot, that lacks its operand
+abbrev pub place_in_slots : Row → ℕ → List ℕ → Option ℕ
+place_in_slots row from os = option_map (λ j. from + j) (position lacks (zip row.slots (drop from os)))
+
+abbrev pub place_in_row : Option Row → List ℕ → Entry → Option ℕ
+place_in_row None os e = None
+place_in_row (Some row) os e = cond (admitted row e.run.len) (place_in_slots row (e.run.at + front_length_of row e.run.len) os) None
+
+abbrev pub place_in_tail : Sort → List ℕ → Entry → Option ℕ
+place_in_tail sort os e = place_in_row (slots_of sort e.kind) os e
 
 -- the operand at k is absent, and is one of the last operands of the entry, where its slot needs it
 abbrev pub InSlots : Row → ℕ → List ℕ → ℕ → Type 0

@@ -5,13 +5,13 @@
 #![tactic(auto)]
 
 ghost use Rattle.std.specs.Prelude.{◌≡◌, ℕ, ◌+◌, ◌<◌, ◌≤◌, min, true, ◌&&◌, ◌⊎◌, length, take, position, if◌then◌else◌, Some, None, IfSome, Decides, ◌==◌, nat_le};
-ghost use Rattle.std.specs.List.{zip};
+ghost use Rattle.std.specs.List.{zip, filter_map, reduce};
 ghost use Rattle.std.specs.Option.{option_map};
 ghost use Rattle.kinds.specs.Kinds.{row_of};
 ghost use Rattle.places.specs.First.{Least, Over, Holds};
 ghost use Rattle.operands.specs.Faults.{absent, slots_of, out_of_range_of};
 ghost use Rattle.operands.specs.Operands.{Lacking, NotBelow, Beyond};
-ghost use Rattle.operands.specs.Walk.{lacks, fronted, asked, failing, Front, Tail, InTail, InSlots, Looked, Reached};
+ghost use Rattle.operands.specs.Walk.{lacks, fronted, asked, failing, place_in_slots, place_in_tail, Front, Looked, Reached};
 
 use arena::{ABSENT, Entry, Handle};
 use kinds::{Slot, Slots};
@@ -52,10 +52,7 @@ pub fn slots_of(sort: Sort, kind: u8) -> Option<Slots>
 pub fn out_of_range(optional: bool, bound: usize, handle: Handle) -> bool
     ensures { result ≡ out_of_range_of optional bound handle }
 {
-    if optional && handle == ABSENT {
-        return false;
-    }
-    handle as usize >= bound
+    !(optional && handle == ABSENT) && handle as usize >= bound
 }
 
 impl Demand {
@@ -65,9 +62,17 @@ impl Demand {
     {
         match self {
             Demand::Present(sort) => front_of(slots_of(sort, e.kind), e.run.len),
-            Demand::BelowOwn => e.run.len,
-            Demand::Below(_) => e.run.len,
+            Demand::BelowOwn | Demand::Below(_) => e.run.len,
         }
+    }
+
+    // Where it ends on an entry, in a list of `len` operands.
+    fn end_of(self, e: &Entry, len: usize) -> u32
+        requires { len < 4294967296 }
+        ensures { result ≡ min (e.now.run.at + asked self e.now) len }
+    {
+        let end = e.run.at as usize + self.asked(e) as usize;
+        end.min(len) as u32
     }
 
     // Whether an operand of the entry at `index` does not meet it.
@@ -80,6 +85,63 @@ impl Demand {
             Demand::Below(bound) => out_of_range(true, bound, operand),
         }
     }
+
+    // The place itself if it was not in reach and its operand fails.
+    fn fault_at(self, index: usize, place: u32, operand: Handle, reach: u32) -> Option<usize>
+        ensures { result ≡ (if nat_le reach place && failing self index operand then Some place else None) }
+    {
+        (reach <= place && self.fails(index, operand)).then_some(place as usize)
+    }
+
+    // Looks at the places from one up to another that are not in reach, and puts them all in reach.
+    fn look(
+        self,
+        index: usize,
+        from: u32,
+        to: u32,
+        operands: &[Handle],
+        reach: &mut [u32],
+    ) -> Option<usize>
+        requires { (to ≤ length operands.now) × (to ≤ length reach.old) }
+        ensures { Looked self index from to operands.now reach.old reach.new result }
+    {
+        let mut found = None;
+        let mut place = from;
+        // No `for`: it jumps over what is in reach, so that each place is looked at once.
+        while place < to {
+            let at = place as usize;
+            let here = reach[at];
+            found = lesser(found, self.fault_at(index, place, operands[at], here));
+            reach[at] = here.max(to);
+            place = here.max(place + 1);
+        }
+        found
+    }
+
+    // The least place that does not meet it, with the memory to look at each once.
+    fn least_in(self, entries: &[Entry], operands: &[Handle], reach: &mut [u32]) -> Option<usize>
+        requires room { length operands.now ≤ length reach.old }
+        requires few { length operands.now < 4294967296 }
+        requires fresh { (q : ℕ) → Reached reach.old q → ⊥ }
+        ensures { Least (Front self entries.now operands.now) result }
+    {
+        let mut found = None;
+        for (i, e) in entries.iter().enumerate() {
+            let to = self.end_of(e, operands.len());
+            let here = self.look(i, e.run.at, to, operands, reach);
+            found = lesser(found, here);
+        }
+        found
+    }
+
+    // The least place below the limit that some entry has and that does not meet it.
+    fn least(self, entries: &[Entry], operands: &[Handle]) -> Option<usize>
+        ensures { Least (Front self entries.now (take 262144 operands.now)) result }
+    {
+        // No heap, where the call cannot fail.
+        let mut reach = [0; OPERANDS];
+        self.least_in(entries, up_to(OPERANDS, operands), &mut reach)
+    }
 }
 
 fn front_of(row: Option<Slots>, len: u32) -> u32
@@ -89,80 +151,6 @@ fn front_of(row: Option<Slots>, len: u32) -> u32
         Some(row) if row.admits(len) => row.front(len),
         _ => 0,
     }
-}
-
-// The place itself if it was not in reach and its operand fails.
-fn fault_at(demand: Demand, index: usize, place: u32, operand: Handle, reach: u32) -> Option<usize>
-    ensures { result ≡ (if nat_le reach place && failing demand index operand then Some place else None) }
-{
-    if reach <= place && demand.fails(index, operand) {
-        Some(place as usize)
-    } else {
-        None
-    }
-}
-
-// Looks at the places from one up to another that are not in reach, and puts them all in reach.
-fn look(
-    demand: Demand,
-    index: usize,
-    from: u32,
-    to: u32,
-    operands: &[Handle],
-    reach: &mut [u32],
-) -> Option<usize>
-    requires { (to ≤ length operands.now) × (to ≤ length reach.old) }
-    ensures { Looked demand index from to operands.now reach.old reach.new result }
-{
-    let mut found = None;
-    let mut place = from;
-    while place < to {
-        let at = place as usize;
-        let here = reach[at];
-        found = lesser(found, fault_at(demand, index, place, operands[at], here));
-        reach[at] = here.max(to);
-        place = here.max(place + 1);
-    }
-    found
-}
-
-// Where the demand on an entry ends, in a list of `len` operands.
-fn end_of(demand: Demand, e: &Entry, len: usize) -> u32
-    requires { len < 4294967296 }
-    ensures { result ≡ min (e.now.run.at + asked demand e.now) len }
-{
-    let end = e.run.at as usize + demand.asked(e) as usize;
-    end.min(len) as u32
-}
-
-// The least place that does not meet the demand, with the memory to look at each once.
-fn least_front_in(
-    demand: Demand,
-    entries: &[Entry],
-    operands: &[Handle],
-    reach: &mut [u32],
-) -> Option<usize>
-    requires room { length operands.now ≤ length reach.old }
-    requires few { length operands.now < 4294967296 }
-    requires fresh { (q : ℕ) → Reached reach.old q → ⊥ }
-    ensures { Least (Front demand entries.now operands.now) result }
-{
-    let mut found = None;
-    for (i, e) in entries.iter().enumerate() {
-        let to = end_of(demand, e, operands.len());
-        let here = look(demand, i, e.run.at, to, operands, reach);
-        found = lesser(found, here);
-    }
-    found
-}
-
-// The least place below the limit that does not meet the demand of some entry.
-fn least_front(demand: Demand, entries: &[Entry], operands: &[Handle]) -> Option<usize>
-    ensures { Least (Front demand entries.now (take 262144 operands.now)) result }
-{
-    let mut reach = [0; OPERANDS];
-    let looked_at = up_to(OPERANDS, operands);
-    least_front_in(demand, entries, looked_at, &mut reach)
 }
 
 // The first slot that needs the operand there, and it is absent.
@@ -178,15 +166,16 @@ fn lacking_slot(slots: &[Slot], operands: &[Handle]) -> Option<usize>
 
 // The least place from `from` on whose slot needs it and that is absent.
 fn least_in_slots(row: &Slots, from: usize, operands: &[Handle]) -> Option<usize>
-    ensures { Least (InSlots (row_of row.now) from operands.now) result }
+    ensures { result ≡ place_in_slots (row_of row.now) from operands.now }
 {
     let rest = operands.get(from..)?;
     let j = lacking_slot(row.slots, rest)?;
     Some(from + j)
 }
 
+// The least place that is absent and has a slot that needs it.
 fn least_in_tail(sort: Sort, e: &Entry, operands: &[Handle]) -> Option<usize>
-    ensures { Least (InTail sort operands.now e.now) result }
+    ensures { result ≡ place_in_tail sort operands.now e.now }
 {
     let row = slots_of(sort, e.kind)?;
     if !row.admits(e.run.len) {
@@ -196,40 +185,35 @@ fn least_in_tail(sort: Sort, e: &Entry, operands: &[Handle]) -> Option<usize>
     least_in_slots(&row, from, operands)
 }
 
-// The least place that is absent and has a slot that needs it, in some entry.
+// The least of these in some entry.
 fn least_tail(sort: Sort, entries: &[Entry], operands: &[Handle]) -> Option<usize>
-    ensures { Least (Tail sort entries.now operands.now) result }
+    ensures { result ≡ reduce min (filter_map (place_in_tail sort operands.now) entries.now) }
 {
-    let mut found = None;
-    for e in entries {
-        let here = least_in_tail(sort, e, operands);
-        found = lesser(found, here);
-    }
-    found
+    entries
+        .iter()
+        .filter_map(|e| least_in_tail(sort, e, operands))
+        .min()
 }
 
 // The least place that is absent and that some entry needs, or the limit of a list that is over it. No place past the limit is looked at.
 pub fn least_lacking(sort: Sort, entries: &[Entry], operands: &[Handle]) -> Option<usize>
     ensures { Least (λ k. Over 262144 (length operands.now) k ⊎ Lacking sort entries.now operands.now k) result }
 {
-    let front = least_front(Demand::Present(sort), entries, operands);
+    let front = Demand::Present(sort).least(entries, operands);
     let tail = least_tail(sort, entries, up_to(OPERANDS, operands));
-    match lesser(front, tail) {
-        Some(k) => Some(k),
-        None => over(OPERANDS, operands.len()),
-    }
+    lesser(front, tail).or(over(OPERANDS, operands.len()))
 }
 
 // The least place below the limit that is not below an entry that it is an operand of.
 pub fn least_not_below(entries: &[Entry], operands: &[Handle]) -> Option<usize>
     ensures { Least (NotBelow entries.now (take 262144 operands.now)) result }
 {
-    least_front(Demand::BelowOwn, entries, operands)
+    Demand::BelowOwn.least(entries, operands)
 }
 
 // The least place below the limit that is an operand of some entry and not below the bound.
 pub fn least_beyond(bound: usize, entries: &[Entry], operands: &[Handle]) -> Option<usize>
     ensures { Least (Beyond bound entries.now (take 262144 operands.now)) result }
 {
-    least_front(Demand::Below(bound), entries, operands)
+    Demand::Below(bound).least(entries, operands)
 }

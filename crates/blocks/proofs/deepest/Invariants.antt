@@ -3,6 +3,6 @@ use Rattle.arena.specs.Nodes.{nodes}
 use Rattle.blocks.proofs.Depths.{Counts}
 use Rattle.blocks.proofs.deepest.Given as goal
 
-abbrev pub invariant-loop-i : goal.invariant-loop-i
-invariant-loop-i l =
-    (l.opened ≤ l.i) × (l.closed ≤ l.i) × ((os : List ℕ) → Counts (nodes l.records os) l.i l.opened l.closed l.deepest)
+abbrev pub invariant-loop-record : goal.invariant-loop-record
+invariant-loop-record l =
+    (l.opened ≤ l.record-index) × (l.closed ≤ l.record-index) × ((os : List ℕ) → Counts (nodes l.records os) l.record-index l.opened l.closed l.deepest)

@@ -2,12 +2,26 @@
 use Rattle.std.specs.Prelude.{◌≡◌, ℕ, ◌<◌, ◌⊎◌, List, [], ◌∷◌, Ok, Err, Result}
 use Rattle.places.specs.declared.Place.{Place}
 use Rattle.places.specs.First.{number_of, At}
+use Rattle.refusals.specs.declared.Axis.{Axis}
+use Rattle.refusals.specs.declared.Axis.TheVariants.{X, Y, Z}
+use Rattle.refusals.specs.declared.MeshOutput.{MeshOutput}
+use Rattle.refusals.specs.declared.MeshOutput.TheVariants.{Vertices, Primitives}
 use Rattle.refusals.specs.declared.Refusal.{Refusal}
 use Rattle.refusals.specs.declared.Refusal.TheVariants.{MalformedSettings, RepeatedKey, Misshapen, OutOfRange, NotOneBlock, NotFound, Nameless, MissingValue, SrcNeedsToBeFinite, DstRangeTooSmall, UnsupportedScalar, InitNotMapped, ConstantEvaluatorError, RuntimeExpr, NegativeWorkgroupSize, NegativeMeshOutputMax, Full}
 
 -- a place as two values
 abbrev pub place_of : Place → List ℕ
 place_of p = number_of p.table ∷ p.index ∷ []
+
+-- the number of an axis, and of an output
+abbrev pub axis_number : Axis → ℕ
+axis_number X = 0
+axis_number Y = 1
+axis_number Z = 2
+
+abbrev pub output_number : MeshOutput → ℕ
+output_number Vertices = 0
+output_number Primitives = 1
 
 abbrev pub code_of : Refusal → ℕ × List ℕ
 code_of MalformedSettings = (1, [])
@@ -24,8 +38,8 @@ code_of (UnsupportedScalar o) = (11, o ∷ [])
 code_of (InitNotMapped o) = (12, o ∷ [])
 code_of (ConstantEvaluatorError h layer code) = (13, h ∷ layer ∷ code ∷ [])
 code_of (RuntimeExpr h) = (14, h ∷ [])
-code_of (NegativeWorkgroupSize axis) = (15, axis ∷ [])
-code_of (NegativeMeshOutputMax which) = (16, which ∷ [])
+code_of (NegativeWorkgroupSize axis) = (15, axis_number axis ∷ [])
+code_of (NegativeMeshOutputMax which) = (16, output_number which ∷ [])
 code_of (Full table) = (17, number_of table ∷ [])
 
 -- values in order, the first that differ deciding

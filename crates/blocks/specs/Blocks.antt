@@ -2,15 +2,14 @@
 use Rattle.std.specs.Prelude.{◌≡◌, ℕ, zero, suc, ◌+◌, ◌≤◌, cond, ◌⊎◌, List, [], ◌∷◌, ◌++◌, length, take, Some, None, Option, ◌==◌, slice_index}
 use Rattle.std.specs.List.{slice_get}
 use Rattle.places.specs.First.{Least, Holds}
-use Rattle.kinds.specs.declared.RecordKind.{RecordKind}
-use Rattle.kinds.specs.Kinds.{records, blocks_of}
+use Rattle.kinds.specs.Kinds.{RecordRow, records, blocks_of}
 use Rattle.arena.specs.Nodes.{Node}
 use Rattle.blocks.specs.declared.Role.{Role}
 use Rattle.blocks.specs.declared.Role.TheVariants.{Opening, Closing, Doing}
 
 -- ---- what a record asks for
 
-abbrev pub asked : Option RecordKind → ℕ → ℕ
+abbrev pub asked : Option RecordRow → ℕ → ℕ
 asked None word = 0
 asked (Some row) word = blocks_of row.after word
 

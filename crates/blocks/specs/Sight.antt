@@ -2,10 +2,9 @@
 -- enclosing block.
 use Rattle.std.specs.Prelude.{◌≡◌, ℕ, Bool, true, false, cond, not, ◌⊎◌, List, [], ◌∷◌, ◌++◌, length, replicate, Some, None, filter, Option, ◌==◌}
 use Rattle.std.specs.List.{slice_get, ContainsAt as Has, AllByRecursion}
-use Rattle.kinds.specs.declared.RecordKind.{RecordKind}
 use Rattle.kinds.specs.declared.Slot.{Slot}
 use Rattle.kinds.specs.declared.Slot.TheVariants.{Needed}
-use Rattle.kinds.specs.Kinds.{records, front_length_of, result_slot}
+use Rattle.kinds.specs.Kinds.{RecordRow, records, front_length_of, result_slot}
 use Rattle.arena.specs.Nodes.{Node}
 use Rattle.blocks.specs.Blocks.{Block, Stmts, Stmt, Blocks, block, end, also, stmt, none, more}
 use Rattle.blocks.specs.Weave.{is_emit, emits}
@@ -17,7 +16,7 @@ abbrev pub present : List ℕ → List ℕ
 present hs = filter (λ h. not (h == 4294967295)) hs
 
 -- the slot of each of so many operands; those in front of the slots are needed, as a Call's arguments
-abbrev pub slots_for : Option RecordKind → ℕ → List Slot
+abbrev pub slots_for : Option RecordRow → ℕ → List Slot
 slots_for None n = []
 slots_for (Some row) n = replicate (front_length_of row.slots n) Needed ++ row.slots.slots
 

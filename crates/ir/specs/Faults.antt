@@ -1,8 +1,7 @@
 -- What makes an entry, a record or an override bad.
 use Rattle.std.specs.Prelude.{ℕ, ◌+◌, ◌-◌, ◌*◌, ◌^◌, Bool, true, false, cond, not, ◌&&◌, ◌||◌, List, [], ◌∷◌, length, Some, None, Option, ◌==◌, nat_le, nat_lt, slice_index, slice_index_or}
 use Rattle.std.specs.List.{slice_get}
-use Rattle.kinds.specs.declared.Slots.{Slots}
-use Rattle.kinds.specs.Kinds.{admitted}
+use Rattle.kinds.specs.Kinds.{Row, admitted}
 use Rattle.operands.specs.declared.Sort.{Sort}
 use Rattle.operands.specs.Faults.{slots_of}
 use Rattle.arena.specs.declared.entry.Entry.{Entry}
@@ -14,7 +13,7 @@ abbrev pub outside : ℕ → Run → Bool
 outside n r = nat_lt n (r.at + r.len)
 
 -- the kind is unknown, or has another number of operands
-abbrev pub wrong_count : Option Slots → ℕ → Bool
+abbrev pub wrong_count : Option Row → ℕ → Bool
 wrong_count None n = true
 wrong_count (Some row) n = not (admitted row n)
 

@@ -1,28 +1,39 @@
 -- Which operands each kind has, and how many blocks stand after a record.
-use Rattle.std.specs.Prelude.{ℕ, ◌-◌, Bool, true, false, cond, List, [], ◌∷◌, ◌++◌, length, take, replicate, ◌==◌, nat_le, nat_lt, slice_index_or}
+use Rattle.std.specs.Prelude.{ℕ, ◌-◌, Bool, true, false, cond, List, [], ◌∷◌, ◌++◌, length, replicate, Some, None, Option, ◌==◌, nat_le}
+use Rattle.std.specs.List.{slice_get}
+use Rattle.std.specs.Option.{option_map}
 use Rattle.kinds.specs.declared.Slot.{Slot}
-use Rattle.kinds.specs.declared.Slot.TheVariants.{Unused, Needed, Optional, Result, OptionalResult}
+use Rattle.kinds.specs.declared.Slot.TheVariants.{Needed, Optional, Result, OptionalResult}
 use Rattle.kinds.specs.declared.Slots.{Slots}
 use Rattle.kinds.specs.declared.After.{After}
 use Rattle.kinds.specs.declared.After.TheVariants.{Blocks, Cases}
 use Rattle.kinds.specs.declared.RecordKind.{RecordKind}
 
--- these slots, after any number of needed operands if the first argument says so
-abbrev pub row : Bool → List Slot → Slots
-row b ss = record { more = b; count = length ss; slots = take 8 (ss ++ replicate 8 Unused) }
+-- the operands of a kind: any number of needed ones if `more`, and then one for each slot
+pub record Row : Type 0 where
+  pub more : Bool
+  pub slots : List Slot
 
-abbrev pub just : List Slot → Slots
+pub record RecordRow : Type 0 where
+  pub slots : Row
+  pub after : After
+
+-- these slots, after any number of needed operands if the first argument says so
+abbrev pub row : Bool → List Slot → Row
+row b ss = record { more = b; slots = ss }
+
+abbrev pub just : List Slot → Row
 just = row false
 
 -- so many needed operands, and so many that may be absent after them
-abbrev pub of : ℕ → ℕ → Slots
+abbrev pub of : ℕ → ℕ → Row
 of n m = just (replicate n Needed ++ replicate m Optional)
 
 -- a record with these operands and so many blocks after it
-abbrev pub then : Slots → ℕ → RecordKind
+abbrev pub then : Row → ℕ → RecordRow
 then s n = record { slots = s; after = Blocks n }
 
-abbrev pub expressions : List Slots
+abbrev pub expressions : List Row
 expressions =
     row true []  -- 0 Compose
     ∷ of 2 0  -- 1 Access
@@ -60,7 +71,7 @@ expressions =
     ∷ of 3 0  -- 33 CooperativeMultiplyAdd
     ∷ []
 
-abbrev pub records : List RecordKind
+abbrev pub records : List RecordRow
 records =
     then (of 0 0) 0  -- 0 Emit
     ∷ then (of 0 0) 1  -- 1 Block
@@ -89,29 +100,55 @@ records =
     ∷ then (of 0 0) 0  -- 24 Close
     ∷ []
 
+-- ---- as the program holds them
+
+abbrev pub row_of : Slots → Row
+row_of s = record { more = s.more; slots = s.slots.now }
+
+abbrev pub record_of : RecordKind → RecordRow
+record_of r = record { slots = row_of r.slots; after = r.after }
+
+-- the operands of the record of a number, and what stands after it
+abbrev pub slots_in_records : ℕ → Option Row
+slots_in_records n = option_map (λ (r : RecordRow). r.slots) (slice_get records n)
+
+abbrev pub after_in_records : ℕ → Option After
+after_in_records n = option_map (λ (r : RecordRow). r.after) (slice_get records n)
+
+-- ---- a run of operands
+
+abbrev pub count : Row → ℕ
+count r = length r.slots
+
 -- whether a run may have so many operands
-abbrev pub admitted : Slots → ℕ → Bool
-admitted s n = cond s.more (nat_le s.count n) (s.count == n)
+abbrev pub admitted : Row → ℕ → Bool
+admitted r n = cond r.more (nat_le (count r) n) (count r == n)
 
 -- how many of so many operands stand before those that have a slot
-abbrev pub front_length_of : Slots → ℕ → ℕ
-front_length_of s n = n - s.count
+abbrev pub front_length_of : Row → ℕ → ℕ
+front_length_of r n = n - count r
 
--- the slot at j, counted from the first that has one
-abbrev pub slot_at : Slots → ℕ → Slot
-slot_at s j = cond (nat_lt j 8) (slice_index_or s.slots j Unused) Unused
+-- the slot at j, counted from the first operand that has one
+abbrev pub slot_at : Row → ℕ → Option Slot
+slot_at r j = slice_get r.slots j
 
 -- an operand there may not be absent
 abbrev pub needed_slot : Slot → Bool
-needed_slot Unused = false
 needed_slot Needed = true
 needed_slot Optional = false
 needed_slot Result = true
 needed_slot OptionalResult = false
 
+abbrev pub needed_where : Option Slot → Bool
+needed_where None = false
+needed_where (Some s) = needed_slot s
+
+-- slot j is there, and its operand may not be absent
+abbrev pub needed_slot_at : Row → ℕ → Bool
+needed_slot_at r j = needed_where (slot_at r j)
+
 -- an operand there is named, and not used
 abbrev pub result_slot : Slot → Bool
-result_slot Unused = false
 result_slot Needed = false
 result_slot Optional = false
 result_slot Result = true

@@ -1,8 +1,7 @@
 -- From what was looked at to what is wrong.
 use Rattle.std.proofs.Common.{◌≡◌, ℕ, ◌+◌, ◌-◌, ◌<◌, ◌≤◌, true, false, cond, eqb, ltb, leb, ◌⊎◌, List, length, take, Some, None, Option, sym, ap, ◌∙◌, subst, inl, inr, ⊎_elim, arith}
 use Rattle.std.proofs.lemmas.Bool.{cases_lt, cases_Bool, leb-true, eqb-true, lt-ltb, le-ltb, and_parts, and_from, cond-true, cond-false, false≢true}
-use Rattle.kinds.specs.declared.Slots.{Slots}
-use Rattle.kinds.specs.Kinds.{admitted, front_length_of, slot_at, needed_slot}
+use Rattle.kinds.specs.Kinds.{Row, count, admitted, front_length_of, needed_slot_at}
 use Rattle.places.specs.First.{Least, Holds, lesser_of}
 use Rattle.places.proofs.Kit.{least_iff, least_or, cut_in, cut_out, Cut, in_take, within}
 use Rattle.arena.specs.declared.entry.Entry.{Entry}
@@ -39,26 +38,26 @@ below_bound bound es os =
     (λ k f. (f.0, holds_map (λ i e. InRun (λ i _ _ h. G i h) os i e k) (λ i e. InFront (Below bound) os i e k) (λ i e w. run_whole G os i e k w) es f.0 f.1))
 
 -- a right number of operands is at least the slots
-count_within : (row : Slots) (n : ℕ) → admitted row n ≡ true → row.count ≤ n
+count_within : (row : Row) (n : ℕ) → admitted row n ≡ true → count row ≤ n
 count_within row n a =
-    elim row.more as (λ b. cond b (leb row.count n) (eqb row.count n) ≡ true → row.count ≤ n)
-    [ true ↦ λ h. leb-true row.count n h | false ↦ λ h. omega (arith, eqb-true row.count n h) ]
+    elim row.more as (λ b. cond b (leb (count row) n) (eqb (count row) n) ≡ true → count row ≤ n)
+    [ true ↦ λ h. leb-true (count row) n h | false ↦ λ h. omega (arith, eqb-true (count row) n h) ]
     a
 
-module _ (row : Slots) (n : ℕ) where
+module _ (row : Row) (n : ℕ) where
   -- needed before the slots, or in its slot
   needed_front : (s : ℕ) → admitted row n ≡ true → s < front_length_of row n → needed (Some row) n s ≡ true
   needed_front s a l = and_from (admitted row n) _ a (cond-true (ltb s (front_length_of row n)) true _ (lt-ltb s (front_length_of row n) l))
 
-  needed_at_slot : (j : ℕ) → admitted row n ≡ true → needed_slot (slot_at row j) ≡ true → needed (Some row) n (front_length_of row n + j) ≡ true
+  needed_at_slot : (j : ℕ) → admitted row n ≡ true → needed_slot_at row j ≡ true → needed (Some row) n (front_length_of row n + j) ≡ true
   needed_at_slot j a t =
       let same : front_length_of row n + j - front_length_of row n ≡ j = omega arith in
       and_from (admitted row n) _ a
       (cond-false (ltb (front_length_of row n + j) (front_length_of row n)) true _ (le-ltb (front_length_of row n + j) (front_length_of row n) (omega arith))
-      ∙ ap (λ x. needed_slot (slot_at row x)) same ∙ t)
+      ∙ ap (λ x. needed_slot_at row x) same ∙ t)
 
   needed_either : (s : ℕ) → needed (Some row) n s ≡ true →
-      (admitted row n ≡ true) × ((s < front_length_of row n) ⊎ ((front_length_of row n ≤ s) × (needed_slot (slot_at row (s - front_length_of row n)) ≡ true)))
+      (admitted row n ≡ true) × ((s < front_length_of row n) ⊎ ((front_length_of row n ≤ s) × (needed_slot_at row (s - front_length_of row n) ≡ true)))
   needed_either s h =
       let p = and_parts (admitted row n) (needed_at row n s) h in (
         p.0,
@@ -68,18 +67,18 @@ module _ (row : Slots) (n : ℕ) where
       )
 
 -- an absent operand that an entry with this row needs stands before its slots or in one of them
-module _ (o : Option Slots) (os : List ℕ) (e : Entry) (k : ℕ) where
+module _ (o : Option Row) (os : List ℕ) (e : Entry) (k : ℕ) where
   abbrev Absent : Type 0
   Absent = Holds (λ _ h. eqb h absent ≡ true) os k
 
   -- in slot s of the entry's run, needed there
-  abbrev pub Needs : Option Slots → Type 0
+  abbrev pub Needs : Option Row → Type 0
   Needs o = (s : ℕ) × (s < e.run.len) × (k ≡ e.run.at + s) × (needed o e.run.len s ≡ true) × Absent
 
-  abbrev pub Fronts : Option Slots → Type 0
+  abbrev pub Fronts : Option Row → Type 0
   Fronts o = ((e.run.at ≤ k) × (k < e.run.at + fronted o e.run.len)) × Absent
 
-front_needs : (o : Option Slots) (os : List ℕ) (e : Entry) (k : ℕ) → Fronts o os e k o → Needs o os e k o
+front_needs : (o : Option Row) (os : List ℕ) (e : Entry) (k : ℕ) → Fronts o os e k o → Needs o os e k o
 front_needs None os e k f = let low = f.0.0 in let high = f.0.1 in absurd (omega arith)
 front_needs (Some row) os e k f =
     let n = e.run.len in
@@ -92,7 +91,7 @@ front_needs (Some row) os e k f =
     let high : k < e.run.at + 0 = subst (λ x. k < e.run.at + x) (cond-false (admitted row n) (front_length_of row n) 0 a) f.0.1 in absurd (omega arith))
     (cases_Bool (admitted row n))
 
-row_needs : (o : Option Slots) (os : List ℕ) (e : Entry) (k : ℕ) → InRow o os e k → Needs o os e k o
+row_needs : (o : Option Row) (os : List ℕ) (e : Entry) (k : ℕ) → InRow o os e k → Needs o os e k o
 row_needs None os e k f = absurd f
 row_needs (Some row) os e k f =
     let n = e.run.len in
@@ -102,7 +101,7 @@ row_needs (Some row) os e k f =
     let at = v.2 in
     (front_length_of row n + v.0, omega arith, omega arith, needed_at_slot row n v.0 f.0 v.3, v.4)
 
-needs_either : (o : Option Slots) (os : List ℕ) (e : Entry) (k : ℕ) → Needs o os e k o → Fronts o os e k o ⊎ InRow o os e k
+needs_either : (o : Option Row) (os : List ℕ) (e : Entry) (k : ℕ) → Needs o os e k o → Fronts o os e k o ⊎ InRow o os e k
 needs_either None os e k f = absurd (false≢true f.3)
 needs_either (Some row) os e k f =
     let n = e.run.len in
@@ -114,7 +113,7 @@ needs_either (Some row) os e k f =
     ⊎_elim
     (λ (l : s < front_length_of row n).
     inl ((omega arith, subst (λ x. k < e.run.at + x) (sym (cond-true (admitted row n) (front_length_of row n) 0 w.0)) (omega arith)), f.4))
-    (λ (l : (front_length_of row n ≤ s) × (needed_slot (slot_at row (s - front_length_of row n)) ≡ true)).
+    (λ (l : (front_length_of row n ≤ s) × (needed_slot_at row (s - front_length_of row n) ≡ true)).
     let low = l.0 in
     inr (w.0, (s - front_length_of row n, omega arith, omega arith, l.1, f.4)))
     w.1

@@ -1,9 +1,7 @@
 -- What makes an operand wrong for an entry.
 use Rattle.std.specs.Prelude.{ℕ, ◌-◌, Bool, true, false, cond, ◌&&◌, Some, None, Option, ◌==◌, nat_le, nat_lt}
 use Rattle.std.specs.List.{slice_get}
-use Rattle.std.specs.Option.{option_map}
-use Rattle.kinds.specs.declared.Slots.{Slots}
-use Rattle.kinds.specs.Kinds.{expressions, records, admitted, front_length_of, slot_at, needed_slot}
+use Rattle.kinds.specs.Kinds.{Row, expressions, slots_in_records, admitted, front_length_of, needed_slot_at}
 use Rattle.arena.specs.declared.entry.Entry.{Entry}
 use Rattle.operands.specs.declared.Sort.{Sort}
 use Rattle.operands.specs.declared.Sort.TheVariants.{Expressions, Records}
@@ -13,16 +11,16 @@ abbrev pub absent : ℕ
 absent = 4294967295
 
 -- the row of a kind in its table
-abbrev pub slots_of : Sort → ℕ → Option Slots
+abbrev pub slots_of : Sort → ℕ → Option Row
 slots_of Expressions kind = slice_get expressions kind
-slots_of Records kind = option_map (λ r. r.slots) (slice_get records kind)
+slots_of Records kind = slots_in_records kind
 
 -- operand s of so many may not be absent: it stands before those that have a slot, or its slot needs it
-abbrev pub needed_at : Slots → ℕ → ℕ → Bool
-needed_at row n s = cond (nat_lt s (front_length_of row n)) true (needed_slot (slot_at row (s - front_length_of row n)))
+abbrev pub needed_at : Row → ℕ → ℕ → Bool
+needed_at row n s = cond (nat_lt s (front_length_of row n)) true (needed_slot_at row (s - front_length_of row n))
 
 -- the same of a kind that may be unknown or have another number of operands: then none is needed, since no operand has a slot
-abbrev pub needed : Option Slots → ℕ → ℕ → Bool
+abbrev pub needed : Option Row → ℕ → ℕ → Bool
 needed None n s = false
 needed (Some row) n s = admitted row n && needed_at row n s
 

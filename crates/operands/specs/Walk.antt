@@ -1,8 +1,8 @@
 -- Looking at each place once. An operand that is right for an entry is right for every later one, so a place that an earlier run
 -- has covered is passed over, and a place's reach says up to where all is covered.
-use Rattle.std.specs.Prelude.{◌≡◌, ℕ, ◌+◌, ◌<◌, ◌≤◌, Bool, true, cond, ◌⊎◌, List, Some, None, Option, ◌==◌, slice_index}
-use Rattle.kinds.specs.declared.Slots.{Slots}
-use Rattle.kinds.specs.Kinds.{admitted, front_length_of, slot_at, needed_slot}
+use Rattle.std.specs.Prelude.{◌≡◌, ℕ, ◌+◌, ◌<◌, ◌≤◌, Bool, true, cond, ◌&&◌, ◌⊎◌, List, Some, None, Option, ◌==◌, slice_index}
+use Rattle.kinds.specs.declared.Slot.{Slot}
+use Rattle.kinds.specs.Kinds.{needed_slot, Row, count, admitted, front_length_of, needed_slot_at}
 use Rattle.places.specs.First.{Holds}
 use Rattle.arena.specs.declared.entry.Entry.{Entry}
 use Rattle.operands.specs.declared.Sort.{Sort}
@@ -11,7 +11,7 @@ use Rattle.operands.specs.declared.Demand.TheVariants.{Present, BelowOwn, Below}
 use Rattle.operands.specs.Faults.{absent, slots_of, out_of_range_of}
 
 -- how many operands stand before those that have a slot, if their number is right
-abbrev pub fronted : Option Slots → ℕ → ℕ
+abbrev pub fronted : Option Row → ℕ → ℕ
 fronted None n = 0
 fronted (Some row) n = cond (admitted row n) (front_length_of row n) 0
 
@@ -53,12 +53,16 @@ pub record Looked (d : Demand) (i from to : ℕ) (os before after : List ℕ) (r
   pub found : (k : ℕ) → r ≡ Some k → (from ≤ k) × (k < to) × Fails d i os k
   pub missed : (k : ℕ) → from ≤ k → k < to → Fails d i os k → Reached before k ⊎ ((f : ℕ) × (r ≡ Some f) × (f ≤ k))
 
--- the operand at k is absent, and is one of the last operands of the entry, where its slot needs it
-abbrev pub InSlots : Slots → ℕ → List ℕ → ℕ → Type 0
-InSlots row from os k =
-    (j : ℕ) × (j < row.count) × (k ≡ from + j) × (needed_slot (slot_at row j) ≡ true) × Holds (λ _ h. (h == absent) ≡ true) os k
+-- a slot needs its operand, which is absent
+abbrev pub lacks : Slot × ℕ → Bool
+lacks p = needed_slot p.0 && (p.1 == absent)
 
-abbrev pub InRow : Option Slots → List ℕ → Entry → ℕ → Type 0
+-- the operand at k is absent, and is one of the last operands of the entry, where its slot needs it
+abbrev pub InSlots : Row → ℕ → List ℕ → ℕ → Type 0
+InSlots row from os k =
+    (j : ℕ) × (j < count row) × (k ≡ from + j) × (needed_slot_at row j ≡ true) × Holds (λ _ h. (h == absent) ≡ true) os k
+
+abbrev pub InRow : Option Row → List ℕ → Entry → ℕ → Type 0
 InRow None os e k = ⊥
 InRow (Some row) os e k = (admitted row e.run.len ≡ true) × InSlots row (e.run.at + front_length_of row e.run.len) os k
 

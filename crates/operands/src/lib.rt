@@ -4,15 +4,17 @@
 // is looked at once, and the work is in proportion to the tables.
 #![tactic(auto)]
 
-ghost use Rattle.std.specs.Prelude.{◌≡◌, ℕ, ◌+◌, ◌<◌, ◌≤◌, min, true, ◌&&◌, ◌⊎◌, length, take, if◌then◌else◌, Some, None, Decides, ◌==◌, nat_le};
-ghost use Rattle.kinds.specs.Kinds.{needed_slot, slot_at};
+ghost use Rattle.std.specs.Prelude.{◌≡◌, ℕ, ◌+◌, ◌<◌, ◌≤◌, min, true, ◌&&◌, ◌⊎◌, length, take, position, if◌then◌else◌, Some, None, IfSome, Decides, ◌==◌, nat_le};
+ghost use Rattle.std.specs.List.{zip};
+ghost use Rattle.std.specs.Option.{option_map};
+ghost use Rattle.kinds.specs.Kinds.{row_of};
 ghost use Rattle.places.specs.First.{Least, Over, Holds};
 ghost use Rattle.operands.specs.Faults.{absent, slots_of, out_of_range_of};
 ghost use Rattle.operands.specs.Operands.{Lacking, NotBelow, Beyond};
-ghost use Rattle.operands.specs.Walk.{fronted, asked, failing, Front, Tail, InTail, InSlots, Looked, Reached};
+ghost use Rattle.operands.specs.Walk.{lacks, fronted, asked, failing, Front, Tail, InTail, InSlots, Looked, Reached};
 
 use arena::{ABSENT, Entry, Handle};
-use kinds::Slots;
+use kinds::{Slot, Slots};
 use places::{lesser, over, up_to};
 
 // The most operands that a list may have.
@@ -38,14 +40,11 @@ pub enum Demand {
 
 // The row of a kind in its table.
 pub fn slots_of(sort: Sort, kind: u8) -> Option<Slots>
-    ensures { result ≡ slots_of sort kind }
+    ensures { option_map row_of result ≡ slots_of sort kind }
 {
     match sort {
         Sort::Expressions => kinds::expression_slots(kind),
-        Sort::Records => match kinds::record_kind(kind) {
-            Some(record) => Some(record.slots),
-            None => None,
-        },
+        Sort::Records => Some(kinds::record_kind(kind)?.slots),
     }
 }
 
@@ -84,17 +83,11 @@ impl Demand {
 }
 
 fn front_of(row: Option<Slots>, len: u32) -> u32
-    ensures { result ≡ fronted row len }
+    ensures { result ≡ fronted (option_map row_of row) len }
 {
     match row {
-        Some(slots) => {
-            if slots.admits(len) {
-                slots.front(len)
-            } else {
-                0
-            }
-        }
-        None => 0,
+        Some(row) if row.admits(len) => row.front(len),
+        _ => 0,
     }
 }
 
@@ -172,44 +165,30 @@ fn least_front(demand: Demand, entries: &[Entry], operands: &[Handle]) -> Option
     least_front_in(demand, entries, looked_at, &mut reach)
 }
 
-// Whether there is an operand at a place, and it is absent.
-fn is_absent(place: usize, operands: &[Handle]) -> bool
-    ensures { Decides result (Holds (λ _ h. (h == absent) ≡ true) operands.now place) }
+// The first slot that needs the operand there, and it is absent.
+fn lacking_slot(slots: &[Slot], operands: &[Handle]) -> Option<usize>
+    ensures first { result ≡ position lacks (zip slots.now operands.now) }
+    ensures inside { IfSome result (λ j. j < length operands.now) }
 {
-    if place < operands.len() {
-        operands[place] == ABSENT
-    } else {
-        false
-    }
-}
-
-// Whether slot `j` of a row needs the operand at a place, and it is absent.
-fn lacks(row: &Slots, j: u8, place: usize, operands: &[Handle]) -> bool
-    ensures { Decides result ((needed_slot (slot_at row.now j) ≡ true) × Holds (λ _ h. (h == absent) ≡ true) operands.now place) }
-{
-    row.slot(j).needed() && is_absent(place, operands)
+    slots
+        .iter()
+        .zip(operands)
+        .position(|(slot, &h)| slot.needed() && h == ABSENT)
 }
 
 // The least place from `from` on whose slot needs it and that is absent.
 fn least_in_slots(row: &Slots, from: usize, operands: &[Handle]) -> Option<usize>
-    requires { from < 8589934592 }
-    ensures { Least (InSlots row.now from operands.now) result }
+    ensures { Least (InSlots (row_of row.now) from operands.now) result }
 {
-    for j in 0..row.count {
-        let place = from + j as usize;
-        if lacks(row, j, place, operands) {
-            return Some(place);
-        }
-    }
-    None
+    let rest = operands.get(from..)?;
+    let j = lacking_slot(row.slots, rest)?;
+    Some(from + j)
 }
 
 fn least_in_tail(sort: Sort, e: &Entry, operands: &[Handle]) -> Option<usize>
     ensures { Least (InTail sort operands.now e.now) result }
 {
-    let Some(row) = slots_of(sort, e.kind) else {
-        return None;
-    };
+    let row = slots_of(sort, e.kind)?;
     if !row.admits(e.run.len) {
         return None;
     }

@@ -1,14 +1,14 @@
-use Rattle.std.proofs.Common.{arith, below_more}
-use Rattle.std.proofs.lemmas.Bool.Decides.{not_from_Decides}
-use Rattle.operands.proofs.Tails.{slots_none, slots_some}
+use Rattle.std.proofs.Common.{Some, None, sym, refl, ◌∙◌}
+use Rattle.operands.proofs.Tails.{slots_from}
+use Rattle.kinds.specs.Kinds.{row_of}
 use Rattle.operands.proofs.least_in_slots.Goals as goal
 
-pub loop-j-preserved : goal.loop-j-preserved
-loop-j-preserved c = below_more _ _ c.loop-j.invariant (not_from_Decides _ c.lacks.ensures c.if-lacks.false)
-
-pub returns-then-lacks : goal.returns-then-lacks
-returns-then-lacks c =
-    slots_some c.args.row.now c.args.from c.args.operands.now c.loop-j.j c.loop-j-test.true (c.lacks.ensures.0 c.if-lacks.true) c.loop-j.invariant
+pub returns-in_err-j : goal.returns-in_err-j
+returns-in_err-j c =
+    slots_from (row_of c.args.row.now) c.args.from c.args.operands.now c.in_ok-rest.rest.now None _ c.in_ok-rest.ensures.lookup.0.2
+    (sym c.in_err-j.was ∙ c.lacking_slot.ensures.first) c.from_residual-in_err-j.ensures
 
 pub returns : goal.returns
-returns c = slots_none c.args.row.now c.args.from c.args.operands.now (λ j l. c.loop-j.invariant j (omega arith))
+returns c =
+    slots_from (row_of c.args.row.now) c.args.from c.args.operands.now c.in_ok-rest.rest.now (Some c.in_ok-j.j) _ c.in_ok-rest.ensures.lookup.0.2
+    (sym c.in_ok-j.was ∙ c.lacking_slot.ensures.first) refl

@@ -60,20 +60,8 @@ FirstOf Applies (Err e) = Applies e × ((r : Refusal) → Earlier r e → Applie
 -- The refusals of tables: 3 at a place of a wrong shape, 4 at a place out of range, 5 at a record that breaks the blocks, 7 at an
 -- override with neither id nor name.
 abbrev pub Faulty : (shape range : ℕ → ℕ → Type 0) → (blocks names : ℕ → Type 0) → Refusal → Type 0
-Faulty shape range blocks names MalformedSettings = ⊥
-Faulty shape range blocks names (RepeatedKey key) = ⊥
 Faulty shape range blocks names (Misshapen p) = At shape p
 Faulty shape range blocks names (OutOfRange p) = At range p
 Faulty shape range blocks names (NotOneBlock k) = blocks k
-Faulty shape range blocks names (NotFound key) = ⊥
 Faulty shape range blocks names (Nameless k) = names k
-Faulty shape range blocks names (MissingValue o) = ⊥
-Faulty shape range blocks names (SrcNeedsToBeFinite o) = ⊥
-Faulty shape range blocks names (DstRangeTooSmall o) = ⊥
-Faulty shape range blocks names (UnsupportedScalar o) = ⊥
-Faulty shape range blocks names (InitNotMapped o) = ⊥
-Faulty shape range blocks names (ConstantEvaluatorError h layer code) = ⊥
-Faulty shape range blocks names (RuntimeExpr h) = ⊥
-Faulty shape range blocks names (NegativeWorkgroupSize axis) = ⊥
-Faulty shape range blocks names (NegativeMeshOutputMax which) = ⊥
-Faulty shape range blocks names (Full table) = ⊥
+Faulty shape range blocks names _ = ⊥

@@ -1,6 +1,6 @@
 -- What entries say, wherever their operands lie.
-use Rattle.std.specs.Prelude.{◌≡◌, ℕ, ◌+◌, ◌≤◌, List, [], ◌∷◌, map, length, take, drop, Some, Option}
-use Rattle.std.specs.List.{slice_get}
+use Rattle.std.specs.Prelude.{◌≡◌, ℕ, ◌+◌, ◌≤◌, List, map, length, take, drop, Some, Option}
+use Rattle.std.specs.List.{slice_get, sum_by}
 use Rattle.std.specs.Option.{option_map, option_flatten}
 use Rattle.arena.specs.declared.entry.Run.{Run}
 use Rattle.arena.specs.declared.entry.Span.{Span}
@@ -35,8 +35,7 @@ operand_at ns h slot = option_flatten (option_map (λ n. slice_get n.operands sl
 
 -- how many operands nodes have in all
 abbrev pub operand_total : List Node → ℕ
-operand_total [] = 0
-operand_total (n ∷ ns) = length n.operands + operand_total ns
+operand_total ns = sum_by (λ n. length n.operands) ns
 
 -- no run reaches past the end of n operands
 abbrev pub Within : List Entry → ℕ → Type 0

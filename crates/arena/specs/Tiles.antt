@@ -1,5 +1,5 @@
 -- Runs that tile an operand list: each operand belongs to exactly one entry. In which order the runs lie is left open.
-use Rattle.std.specs.Prelude.{◌≡◌, ℕ, ◌+◌, ◌<◌, Bool, cond, ◌&&◌, List, [], ◌∷◌, nat_le, nat_lt}
+use Rattle.std.specs.Prelude.{◌≡◌, ℕ, ◌+◌, ◌<◌, Bool, ◌&&◌, List, count_by, nat_le, nat_lt}
 use Rattle.arena.specs.declared.entry.Run.{Run}
 use Rattle.arena.specs.declared.entry.Entry.{Entry}
 use Rattle.arena.specs.Nodes.{Within}
@@ -10,8 +10,7 @@ lies p r = nat_le r.at p && nat_lt p (r.at + r.len)
 
 -- how many entries have the place in their run
 abbrev pub owners : List Entry → ℕ → ℕ
-owners [] p = 0
-owners (e ∷ es) p = cond (lies p e.run) 1 0 + owners es p
+owners es p = count_by (λ e. lies p e.run) es
 
 -- every place below n lies in the run of exactly one entry, and no run reaches past n
 abbrev pub Tiled : List Entry → ℕ → Type 0

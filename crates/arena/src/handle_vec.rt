@@ -1,9 +1,9 @@
 // Values kept by handle.
 ghost use Rattle.std.specs.Prelude.{◌≡◌, ◌≤◌, [], length};
 ghost use Rattle.std.specs.List.{slice_get};
-ghost use Rattle.arena.specs.Held.{held, slots as every, Inserted};
 
 use crate::entry::Handle;
+use thiserror::Error;
 
 // A value for each of the handles 0, 1, .. so far, in a slice that the caller lends. It takes a value only for its next handle, so
 // that no handle is left out and none is given a second value.
@@ -11,16 +11,21 @@ use crate::entry::Handle;
 pub struct HandleVec<'a, U> {
     slots: &'a mut [U],
     count: usize,
+    ghost within: { count ≤ length slots.now },
 }
 
 // Why a value was not taken: its handle is not the next one, or every slot has its value.
-#[derive(Clone, Copy, PartialEq, Debug)]
+#[derive(Clone, Copy, PartialEq, Eq, Debug, Error)]
 pub enum InsertError {
+    #[error("the handle is not the next one")]
     WrongHandle,
+    #[error("every slot has its value")]
     Full,
 }
 
 impl<'a, U: Copy> HandleVec<'a, U> {
+    ghost use Rattle.arena.specs.Held.{held, slots as every, Inserted};
+
     // Holds nothing yet, whatever stands in the slots.
     pub fn new(slots: &'a mut [U]) -> HandleVec<'a, U>
         ensures held { held result ≡ [] }
@@ -35,32 +40,21 @@ impl<'a, U: Copy> HandleVec<'a, U> {
         ensures value { result ≡ length (held self.now) }
         ensures bound { result ≤ length (every self.now) }
     {
-        let slots = &*self.slots;
-        if self.count < slots.len() {
-            self.count
-        } else {
-            slots.len()
-        }
+        self.count
     }
 
     // The value of a handle, if it has one.
     pub fn get(&self, handle: Handle) -> Option<U>
         ensures { result ≡ slice_get (held self.now) handle }
     {
-        let at = handle as usize;
-        if at < self.len() {
-            let slots = &*self.slots;
-            Some(slots[at])
-        } else {
-            None
-        }
+        self.as_slice().get(handle as usize).copied()
     }
 
     // The values, by handle.
     pub fn as_slice(&self) -> &[U]
         ensures { result.now ≡ held self.now }
     {
-        &self.slots[0..self.len()]
+        &self.slots[..self.count]
     }
 
     // Gives `handle`, which has to be the next one, its value. Where it refuses, nothing is written.
@@ -68,15 +62,15 @@ impl<'a, U: Copy> HandleVec<'a, U> {
         ensures cases { Inserted handle value self.old self.new result }
         ensures lender { self.new.slots.ghost_name ≡ self.old.slots.ghost_name }
     {
-        let next = self.len();
-        if handle as usize != next {
+        if handle as usize != self.count {
             return Err(InsertError::WrongHandle);
         }
-        if next >= self.slots.len() {
+        // By index: after a slice's `get_mut` nothing is known of its elements.
+        if self.count == self.slots.len() {
             return Err(InsertError::Full);
         }
-        self.slots[next] = value;
-        self.count = next + 1;
+        self.slots[self.count] = value;
+        self.count += 1;
         Ok(())
     }
 }

@@ -1,5 +1,5 @@
 // Tables by handle: ranges of handles, values kept by handle in lent storage, tables with a limit, and the entries of an arena with
-// their operand list. Uses no other crate.
+// their operand list. Uses no other crate of the repository.
 #![tactic(auto)]
 
 mod arena;

@@ -2,10 +2,10 @@
 ghost use Rattle.std.specs.Prelude.{◌≡◌, ◌+◌, ◌-◌, ◌<◌, ◌≤◌, min, MatchOption};
 ghost use Rattle.std.specs.Iterator.{at_most};
 
-use crate::entry::{ABSENT, Handle};
+use crate::entry::Handle;
 
 // The handles from `first` up to `end`, which is not among them. There are none where `end` is not past `first`.
-#[derive(Clone, Copy)]
+#[derive(Clone, Copy, PartialEq, Eq, Debug)]
 pub struct Range {
     first: Handle,
     end: Handle,
@@ -18,19 +18,19 @@ impl Range {
         ensures first { result.first ≡ first }
         ensures end { result.end ≡ min (last + 1) 4294967295 }
     {
-        let end = if last == ABSENT { ABSENT } else { last + 1 };
-        Range { first, end }
+        // The absent handle is the largest number, and the sum stops there.
+        Range {
+            first,
+            end: last.saturating_add(1),
+        }
     }
 
     // The first and the last handle, unless there is none.
     pub fn first_and_last(&self) -> Option<(Handle, Handle)>
         ensures { MatchOption result (self.now.end ≤ self.now.first) (λ p. (self.now.first < self.now.end) × (p.0 ≡ self.now.first) × (p.1 + 1 ≡ self.now.end)) }
     {
-        if self.first < self.end {
-            Some((self.first, self.end - 1))
-        } else {
-            None
-        }
+        let last = self.end.checked_sub(1)?;
+        (self.first <= last).then_some((self.first, last))
     }
 
     // The same numbers, as a range of `std`.
@@ -51,12 +51,8 @@ impl Iterator for Range {
     ghost remaining = { λ s. at_most (s.end - s.first) };
 
     fn next(&mut self) -> Option<Handle> {
-        if self.first < self.end {
-            let handle = self.first;
-            self.first += 1;
-            Some(handle)
-        } else {
-            None
-        }
+        let (handle, _) = self.first_and_last()?;
+        self.first += 1;
+        Some(handle)
     }
 }

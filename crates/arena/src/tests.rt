@@ -46,10 +46,7 @@ fn begin(slots: &mut [ExpressionKind]) -> bool
     ensures { MatchBool result (slots.new ≡ slice_set slots.old 0 ExpressionKind.Override) (slots.new ≡ slots.old) }
 {
     let mut kinds = HandleVec::new(slots);
-    match kinds.insert(0, ExpressionKind::Override) {
-        Ok(()) => true,
-        Err(_) => false,
-    }
+    kinds.insert(0, ExpressionKind::Override).is_ok()
 }
 
 #[test]
@@ -58,10 +55,8 @@ fn ranges_end_before_the_absent_handle(rt: HostRuntime) {
     assert!(rt; range.first_and_last() == Some((3, 5)));
     let mut met = [0u32; 3];
     let mut handles = HandleVec::new(&mut met);
-    let mut next = 0u32;
-    for handle in range {
+    for (handle, next) in range.zip(0u32..) {
         assert!(rt; handles.insert(next, handle) == Ok(()));
-        next = next.wrapping_add(1);
     }
     assert!(rt; handles.as_slice() == [3, 4, 5].as_slice());
     assert!(rt; Range::new_from_bounds(3, 2).first_and_last() == None);
@@ -91,5 +86,18 @@ fn an_arena_refuses_what_does_not_fit(rt: HostRuntime) -> Result<(), Fail> {
     );
     arena.clear();
     assert!(rt; arena.len() == 0 && arena.append(18, [0; 4], &[0, 0, 0], span) == Ok(0));
+    Ok(())
+}
+
+#[test]
+fn errors_in_words(rt: HostRuntime) -> Result<(), Fail> {
+    let heap = rt.alloc();
+    let full = InsertError::Full;
+    let operands = FullTable::Operands;
+    let words = format!(in heap; "{NoRoom}, {full}, {operands}")?;
+    assert!(rt;
+        words.as_str()
+            == "the table has no room, every slot has its value, no room for the operands"
+    );
     Ok(())
 }

@@ -4,13 +4,17 @@
 
 use arena::{ABSENT, Entry, Handle, Run, Span};
 use ir::{Body, Record, Size, Sizes, Source, check_body, check_source};
+use kinds::{Expression, Statement};
 use refusals::Refusal;
 use std::alloc::{AllocError, Global};
+use std::iter;
 use std::time::{Duration, Instant};
 
 const ENTRIES: u32 = 65536;
 
-const OPERANDS: usize = 262144;
+const HALF: u32 = ENTRIES / 2;
+
+const OPERANDS: u32 = 262144;
 
 fn entry(kind: u8, words: [u32; 4], at: u32, len: u32) -> Entry {
     Entry {
@@ -23,7 +27,17 @@ fn entry(kind: u8, words: [u32; 4], at: u32, len: u32) -> Entry {
 
 // The number 1 as an i32.
 fn one() -> Entry {
-    entry(18, [3, 1, 0, 0], 0, 0)
+    entry(Expression::Literal as u8, [3, 1, 0, 0], 0, 0)
+}
+
+// An expression over a run of operands.
+fn over(kind: Expression, at: u32, len: u32) -> Entry {
+    entry(kind as u8, [0; 4], at, len)
+}
+
+// A record with a run of operands.
+fn record(kind: Statement, at: u32, len: u32) -> Record {
+    entry(kind as u8, [0; 4], at, len)
 }
 
 // How the operands of the expressions lie.
@@ -39,28 +53,24 @@ enum Layout {
 
 fn laid_out(layout: Layout, i: u32) -> Entry {
     match layout {
-        Layout::Tiled => entry(14, [0; 4], i.saturating_sub(1).saturating_mul(4), 4),
-        Layout::Overlapping => entry(0, [0; 4], 0, 262144),
-        Layout::Fanned => if i < 32768 {
-            entry(3, [0; 4], i, 1)
+        Layout::Tiled => over(Expression::Math, i.saturating_sub(1).saturating_mul(4), 4),
+        Layout::Overlapping => over(Expression::Compose, 0, OPERANDS),
+        Layout::Fanned => if i < HALF {
+            over(Expression::Splat, i, 1)
         } else {
-            entry(0, [0; 4], i.saturating_sub(32768), 32768)
+            over(Expression::Compose, i.saturating_sub(HALF), HALF)
         },
     }
 }
 
 fn entries(heap: Global, layout: Layout) -> Result<Vec<Entry>, AllocError> {
-    let mut all = Vec::new(heap);
-    all.push(one())?;
-    for i in 1..ENTRIES {
-        all.push(laid_out(layout, i))?;
-    }
-    Ok(all)
+    iter::once(one())
+        .chain((1..ENTRIES).map(|i| laid_out(layout, i)))
+        .collect(heap)
 }
 
 fn operands(heap: Global) -> Result<Vec<Handle>, AllocError> {
-    let zero: Handle = 0;
-    vec![in heap; zero; OPERANDS]
+    vec![in heap; 0; OPERANDS as usize]
 }
 
 fn source(heap: Global, layout: Layout) -> Result<Source, AllocError> {
@@ -76,13 +86,10 @@ fn source(heap: Global, layout: Layout) -> Result<Source, AllocError> {
 
 // One block of Calls, each with four operands.
 fn records(heap: Global) -> Result<Vec<Record>, AllocError> {
-    let mut all = Vec::new(heap);
-    all.push(entry(23, [0; 4], 0, 0))?;
-    for i in 2..ENTRIES {
-        all.push(entry(14, [0; 4], i.saturating_mul(4), 4))?;
-    }
-    all.push(entry(24, [0; 4], 0, 0))?;
-    Ok(all)
+    iter::once(record(Statement::Open, 0, 0))
+        .chain((2..ENTRIES).map(|i| record(Statement::Call, i.saturating_mul(4), 4)))
+        .chain(iter::once(record(Statement::Close, 0, 0)))
+        .collect(heap)
 }
 
 fn body(heap: Global, layout: Layout) -> Result<Body, AllocError> {
@@ -135,12 +142,8 @@ fn time(rt: &HostRuntime, name: &str, layout: Layout) -> anyhow::Result<()> {
     print(rt, name, "body", answer, start.elapsed(rt)?)
 }
 
-fn run(rt: &HostRuntime) -> anyhow::Result<()> {
-    time(rt, "tiled", Layout::Tiled)?;
-    time(rt, "overlapping", Layout::Overlapping)?;
-    time(rt, "fanned", Layout::Fanned)
-}
-
 fn main(rt: HostRuntime) -> anyhow::Result<()> {
-    run(&rt)
+    time(&rt, "tiled", Layout::Tiled)?;
+    time(&rt, "overlapping", Layout::Overlapping)?;
+    time(&rt, "fanned", Layout::Fanned)
 }

@@ -60,7 +60,7 @@ init_not_below constants i c = nat_le i (slice_index_or constants c (record { in
 
 -- The expression at i is a malformed literal, or names a constant or an override that is not there, or is global and names a constant
 -- whose init is not below it.
-abbrev pub misnamed : List Constant → ℕ → Bool → ℕ → Entry → Bool
+unfoldable pub misnamed : List Constant → ℕ → Bool → ℕ → Entry → Bool
 misnamed constants overrides global i e =
     cond (e.kind == literal) (malformed (word e 0) (word e 1) (word e 2))
     (cond (e.kind == constant) (cond (nat_lt (word e 0) (length constants)) (global && init_not_below constants i (word e 0)) true)

@@ -1,35 +1,8 @@
 -- The tables as the checks go through them.
-use Rattle.std.specs.Prelude.{length, take}
-use Rattle.ir.specs.declared.source.Globals.{Globals}
-use Rattle.ir.specs.declared.body.Locals.{Locals}
+use Rattle.std.specs.Prelude.{take}
 use Rattle.ir.specs.Tables.{Global, Local}
 
-abbrev pub globals : Globals → Global
-globals m =
-    record {
-      entries = m.entries.now;
-      operands = m.operands.now;
-      constants = m.constants.now;
-      overrides = m.overrides.now;
-      names = m.names.now;
-      variables = m.variables.now;
-      sizes = m.sizes.now;
-    }
-
-abbrev pub locals : Locals → Local
-locals b =
-    record {
-      entries = b.entries.now;
-      operands = b.operands.now;
-      records = b.records.now;
-      record_operands = b.record_operands.now;
-      locals = b.locals.now;
-      named = b.named.now;
-      constants = b.constants.now;
-      overrides = length b.overrides.now;
-    }
-
--- the same without the operands past their limit
+-- a module's tables without the operands past their limit
 abbrev pub global_below : Global → Global
 global_below m =
     record {
@@ -42,6 +15,7 @@ global_below m =
       sizes = m.sizes;
     }
 
+-- and a body's
 abbrev pub local_below : Local → Local
 local_below b =
     record {

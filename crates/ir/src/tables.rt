@@ -7,14 +7,14 @@ use rounding::Scalar;
 pub type Record = Entry;
 
 // A constant, with the global expression that it begins as.
-#[derive(Clone, Copy, PartialEq, Debug)]
+#[derive(Clone, Copy, PartialEq, Eq, Debug)]
 pub struct Constant {
     pub init: Handle,
 }
 
 // A constant that a settings file may give a value to, by its id or else by its name, which is a run of the module's name bytes.
 // The init may be absent.
-#[derive(Clone, Copy, PartialEq, Debug)]
+#[derive(Clone, Copy, PartialEq, Eq, Debug)]
 pub struct Override {
     pub id: Option<u16>,
     pub name: Option<Run>,
@@ -23,14 +23,14 @@ pub struct Override {
 }
 
 // A size, and the global expression that gives it in settling; where that is absent the size stays.
-#[derive(Clone, Copy, PartialEq, Debug)]
+#[derive(Clone, Copy, PartialEq, Eq, Debug)]
 pub struct Size {
     pub value: u32,
     pub handle: Handle,
 }
 
 // The sizes of a workgroup, and the largest output of a mesh.
-#[derive(Clone, Copy, PartialEq, Debug)]
+#[derive(Clone, Copy, PartialEq, Eq, Debug)]
 pub struct Sizes {
     pub workgroup: [Size; 3],
     pub vertices: Size,
@@ -38,7 +38,7 @@ pub struct Sizes {
 }
 
 // A module's tables. Variable inits may be absent.
-#[derive(Drop)]
+#[derive(PartialEq, Eq, Debug, Drop)]
 pub struct Source {
     pub entries: Vec<Entry>,
     pub operands: Vec<Handle>,
@@ -49,7 +49,7 @@ pub struct Source {
 }
 
 // A function's body. Local inits may be absent, named expressions may not.
-#[derive(Drop)]
+#[derive(PartialEq, Eq, Debug, Drop)]
 pub struct Body {
     pub entries: Vec<Entry>,
     pub operands: Vec<Handle>,

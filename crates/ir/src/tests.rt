@@ -1,22 +1,29 @@
-// What is asked of one item of a table. Each test says by its `bad` what it finds.
-ghost use Rattle.std.specs.Prelude.{◌≡◌, true};
-ghost use Rattle.operands.specs.Faults.{out_of_range_of};
-ghost use Rattle.ir.specs.Faults.{outside, misshapen, name_outside, misnamed, malformed, emits_past, nameless};
+// What is asked of the items of a table.
+ghost use Rattle.std.specs.Prelude.{◌≡◌, ℕ, true, length};
+ghost use Rattle.places.specs.First.{Least};
+ghost use Rattle.ir.specs.Faults.{outside, misshapen, name_outside, misnamed, malformed, emits_past};
+ghost use Rattle.ir.specs.Tables.{Misnamed, Outside, EmitsPast, Nameless};
 
-use crate::tables::{Constant, Override, Record, Size};
+use crate::tables::{Constant, Override, Record, Size, Source};
 use arena::{Entry, Handle, Run};
+use kinds::{Expression, Statement};
 use operands::{Sort, out_of_range, slots_of};
 use places::Test;
 
-// The kinds whose words are read.
-const LITERAL: u8 = 18;
+// Tables where something may have a wrong shape.
+#[derive(Clone, Copy)]
+pub(crate) struct ShapeOf<T> {
+    pub(crate) tables: T,
+}
 
-const CONSTANT: u8 = 24;
+// Tables where a handle or a number may be out of range, a literal malformed or an Emit past the entries; below the limits of the
+// operands.
+#[derive(Clone, Copy)]
+pub(crate) struct RangeOf<T> {
+    pub(crate) tables: T,
+}
 
-const OVERRIDE: u8 = 25;
-
-const EMIT: u8 = 0;
-
+// Whether a run ends past so many.
 fn is_outside(len: usize, run: Run) -> bool
     ensures { result ≡ outside len run }
 {
@@ -34,10 +41,9 @@ impl Test<Entry> for Shape {
     ghost bad = { λ t _ e. misshapen t.sort t.operands e ≡ true };
 
     fn bad(&self, _index: usize, item: &Entry) -> bool {
-        match slots_of(self.sort, item.kind) {
-            None => true,
-            Some(slots) => !slots.admits(item.run.len) || is_outside(self.operands, item.run),
-        }
+        slots_of(self.sort, item.kind).is_none_or(|slots| {
+            !slots.admits(item.run.len) || is_outside(self.operands, item.run)
+        })
     }
 }
 
@@ -51,40 +57,36 @@ impl Test<Override> for NameOutside {
     ghost bad = { λ t _ o. name_outside t.names o.name ≡ true };
 
     fn bad(&self, _index: usize, item: &Override) -> bool {
-        match item.name {
-            None => false,
-            Some(run) => is_outside(self.names, run),
-        }
+        item.name.is_some_and(|run| is_outside(self.names, run))
     }
 }
 
-// An expression that is a malformed literal, or names a constant or an override that is not there. A global one also names no
-// constant whose init is not below it.
-#[derive(Clone, Copy)]
-pub(crate) struct Names<'m> {
-    pub(crate) constants: &'m [Constant],
-    pub(crate) overrides: usize,
-    pub(crate) global: bool,
+// Whether the expression at an index is a malformed literal, or names a constant or an override that the module does not have. A
+// global one also names no constant whose init is not below it.
+#[tactic(auto, unfolding(crate::specs::Faults::misnamed))]
+fn is_misnamed(source: &Source, global: bool, index: usize, item: &Entry) -> bool
+    ensures { result ≡ misnamed source.now.constants.items (length source.now.overrides.items) global index item.now }
+{
+    let number = item.words[0] as usize;
+    match Expression::try_from(item.kind) {
+        Ok(Expression::Literal) => is_malformed(item.words[0], item.words[1], item.words[2]),
+        Ok(Expression::Constant) => source
+            .constants
+            .get(number)
+            .is_none_or(|constant| global && constant.init as usize >= index),
+        Ok(Expression::Override) => number >= source.overrides.len(),
+        _ => false,
+    }
 }
 
-impl<'m> Test<Entry> for Names<'m> {
-    ghost bad = { λ t i e. misnamed t.constants.now t.overrides t.global i e ≡ true };
-
-    fn bad(&self, index: usize, item: &Entry) -> bool {
-        let number = item.words[0] as usize;
-        match item.kind {
-            LITERAL => is_malformed(item.words[0], item.words[1], item.words[2]),
-            CONSTANT => {
-                if number < self.constants.len() {
-                    self.global && self.constants[number].init as usize >= index
-                } else {
-                    true
-                }
-            }
-            OVERRIDE => number >= self.overrides,
-            _ => false,
-        }
-    }
+// The index of the first such expression.
+pub(crate) fn first_misnamed(entries: &[Entry], source: &Source, global: bool) -> Option<usize>
+    ensures { Least (Misnamed global source.now.constants.items (length source.now.overrides.items) entries.now) result }
+{
+    entries
+        .iter()
+        .enumerate()
+        .position(|(i, item)| is_misnamed(source, global, i, item))
 }
 
 // The largest bits of each type of literal, from Bool to AbstractFloat.
@@ -107,75 +109,86 @@ const LARGEST: [u64; 12] = [
 pub fn is_malformed(type_number: u32, low: u32, high: u32) -> bool
     ensures { result ≡ malformed type_number low high }
 {
-    let at = type_number as usize;
-    if at < 12 {
-        low as u64 + 0x1_0000_0000 * high as u64 > LARGEST[at]
-    } else {
-        true
+    let bits = low as u64 + 0x1_0000_0000 * high as u64;
+    LARGEST
+        .get(type_number as usize)
+        .is_none_or(|largest| bits > *largest)
+}
+
+// Something that has a handle.
+pub(crate) trait HasHandle {
+    ghost handle_of: { Self → ℕ };
+
+    fn handle(&self) -> Handle
+        ensures { result ≡ handle_of self.now };
+}
+
+impl HasHandle for Handle {
+    ghost handle_of = { λ h. h };
+
+    fn handle(&self) -> Handle {
+        *self
     }
 }
 
-// A handle that is not below a bound, unless it is absent and may be.
-#[derive(Clone, Copy)]
-pub(crate) struct Out {
-    pub(crate) optional: bool,
-    pub(crate) bound: usize,
-}
+impl HasHandle for Constant {
+    ghost handle_of = { λ c. c.init };
 
-impl Test<Handle> for Out {
-    ghost bad = { λ t _ h. out_of_range_of t.optional t.bound h ≡ true };
-
-    fn bad(&self, _index: usize, item: &Handle) -> bool {
-        out_of_range(self.optional, self.bound, *item)
+    fn handle(&self) -> Handle {
+        self.init
     }
 }
 
-impl Test<Constant> for Out {
-    ghost bad = { λ t _ c. out_of_range_of t.optional t.bound c.init ≡ true };
+impl HasHandle for Override {
+    ghost handle_of = { λ o. o.init };
 
-    fn bad(&self, _index: usize, item: &Constant) -> bool {
-        out_of_range(self.optional, self.bound, item.init)
+    fn handle(&self) -> Handle {
+        self.init
     }
 }
 
-impl Test<Override> for Out {
-    ghost bad = { λ t _ o. out_of_range_of t.optional t.bound o.init ≡ true };
+impl HasHandle for Size {
+    ghost handle_of = { λ s. s.handle };
 
-    fn bad(&self, _index: usize, item: &Override) -> bool {
-        out_of_range(self.optional, self.bound, item.init)
+    fn handle(&self) -> Handle {
+        self.handle
     }
 }
 
-impl Test<Size> for Out {
-    ghost bad = { λ t _ s. out_of_range_of t.optional t.bound s.handle ≡ true };
-
-    fn bad(&self, _index: usize, item: &Size) -> bool {
-        out_of_range(self.optional, self.bound, item.handle)
-    }
+// The index of the first item whose handle is not below a bound, unless it is absent and may be.
+pub(crate) fn first_outside<T: HasHandle>(
+    items: &[T],
+    optional: bool,
+    bound: usize,
+) -> Option<usize>
+    ensures { Least (Outside optional bound T.handle_of items.now) result }
+{
+    items
+        .iter()
+        .position(|item| out_of_range(optional, bound, item.handle()))
 }
 
-// An Emit that is not empty and ends past the entries.
-#[derive(Clone, Copy)]
-pub(crate) struct EmitsPast {
-    pub(crate) entries: usize,
+// Whether a record is an Emit that is not empty and ends past the entries.
+fn is_past(entries: usize, item: &Record) -> bool
+    ensures { result ≡ emits_past entries item.now }
+{
+    Statement::try_from(item.kind) == Ok(Statement::Emit)
+        && item.words[0] < item.words[1]
+        && item.words[1] as usize > entries
 }
 
-impl Test<Record> for EmitsPast {
-    ghost bad = { λ t _ e. emits_past t.entries e ≡ true };
-
-    fn bad(&self, _index: usize, item: &Record) -> bool {
-        item.kind == EMIT && item.words[0] < item.words[1] && item.words[1] as usize > self.entries
-    }
+// The index of the first such Emit.
+pub(crate) fn first_emit_past(records: &[Record], entries: usize) -> Option<usize>
+    ensures { Least (EmitsPast entries records.now) result }
+{
+    records.iter().position(|item| is_past(entries, item))
 }
 
-// An override with neither id nor name.
-#[derive(Clone, Copy)]
-pub(crate) struct WithoutName {}
-
-impl Test<Override> for WithoutName {
-    ghost bad = { λ _ _ o. nameless o.id o.name ≡ true };
-
-    fn bad(&self, _index: usize, item: &Override) -> bool {
-        item.id.is_none() && item.name.is_none()
-    }
+// The index of the first override with neither id nor name.
+pub(crate) fn first_nameless(overrides: &[Override]) -> Option<usize>
+    ensures { Least (Nameless overrides.now) result }
+{
+    overrides
+        .iter()
+        .position(|item| item.id.is_none() && item.name.is_none())
 }

@@ -2,12 +2,26 @@
 use Rattle.std.specs.Prelude.{◌≡◌, ℕ, ◌<◌, ◌⊎◌, List, [], ◌∷◌, Ok, Err, Result}
 use Rattle.places.specs.declared.Place.{Place}
 use Rattle.places.specs.First.{number_of, At}
+use Rattle.refusals.specs.declared.Axis.{Axis}
+use Rattle.refusals.specs.declared.Axis.TheVariants.{X, Y, Z}
+use Rattle.refusals.specs.declared.MeshOutput.{MeshOutput}
+use Rattle.refusals.specs.declared.MeshOutput.TheVariants.{Vertices, Primitives}
 use Rattle.refusals.specs.declared.Refusal.{Refusal}
 use Rattle.refusals.specs.declared.Refusal.TheVariants.{MalformedSettings, RepeatedKey, Misshapen, OutOfRange, NotOneBlock, NotFound, Nameless, MissingValue, SrcNeedsToBeFinite, DstRangeTooSmall, UnsupportedScalar, InitNotMapped, ConstantEvaluatorError, RuntimeExpr, NegativeWorkgroupSize, NegativeMeshOutputMax, Full}
 
 -- a place as two values
 abbrev pub place_of : Place → List ℕ
 place_of p = number_of p.table ∷ p.index ∷ []
+
+-- the number of an axis, and of an output
+abbrev pub axis_number : Axis → ℕ
+axis_number X = 0
+axis_number Y = 1
+axis_number Z = 2
+
+abbrev pub output_number : MeshOutput → ℕ
+output_number Vertices = 0
+output_number Primitives = 1
 
 abbrev pub code_of : Refusal → ℕ × List ℕ
 code_of MalformedSettings = (1, [])
@@ -24,8 +38,8 @@ code_of (UnsupportedScalar o) = (11, o ∷ [])
 code_of (InitNotMapped o) = (12, o ∷ [])
 code_of (ConstantEvaluatorError h layer code) = (13, h ∷ layer ∷ code ∷ [])
 code_of (RuntimeExpr h) = (14, h ∷ [])
-code_of (NegativeWorkgroupSize axis) = (15, axis ∷ [])
-code_of (NegativeMeshOutputMax which) = (16, which ∷ [])
+code_of (NegativeWorkgroupSize axis) = (15, axis_number axis ∷ [])
+code_of (NegativeMeshOutputMax which) = (16, output_number which ∷ [])
 code_of (Full table) = (17, number_of table ∷ [])
 
 -- values in order, the first that differ deciding
@@ -46,20 +60,8 @@ FirstOf Applies (Err e) = Applies e × ((r : Refusal) → Earlier r e → Applie
 -- The refusals of tables: 3 at a place of a wrong shape, 4 at a place out of range, 5 at a record that breaks the blocks, 7 at an
 -- override with neither id nor name.
 abbrev pub Faulty : (shape range : ℕ → ℕ → Type 0) → (blocks names : ℕ → Type 0) → Refusal → Type 0
-Faulty shape range blocks names MalformedSettings = ⊥
-Faulty shape range blocks names (RepeatedKey key) = ⊥
 Faulty shape range blocks names (Misshapen p) = At shape p
 Faulty shape range blocks names (OutOfRange p) = At range p
 Faulty shape range blocks names (NotOneBlock k) = blocks k
-Faulty shape range blocks names (NotFound key) = ⊥
 Faulty shape range blocks names (Nameless k) = names k
-Faulty shape range blocks names (MissingValue o) = ⊥
-Faulty shape range blocks names (SrcNeedsToBeFinite o) = ⊥
-Faulty shape range blocks names (DstRangeTooSmall o) = ⊥
-Faulty shape range blocks names (UnsupportedScalar o) = ⊥
-Faulty shape range blocks names (InitNotMapped o) = ⊥
-Faulty shape range blocks names (ConstantEvaluatorError h layer code) = ⊥
-Faulty shape range blocks names (RuntimeExpr h) = ⊥
-Faulty shape range blocks names (NegativeWorkgroupSize axis) = ⊥
-Faulty shape range blocks names (NegativeMeshOutputMax which) = ⊥
-Faulty shape range blocks names (Full table) = ⊥
+Faulty shape range blocks names _ = ⊥

@@ -1,6 +1,8 @@
 // Why a module, a body, a settling or a specialising is refused: seventeen reasons, each with a number and values.
 #![tactic(auto)]
 
+#[cfg(test)]
+mod tests;
 mod words;
 
 ghost use Rattle.std.specs.Prelude.{◌≡◌};
@@ -8,59 +10,96 @@ ghost use Rattle.refusals.specs.Codes.{code_of};
 
 use arena::Handle;
 use places::{Place, TableName};
+use thiserror::Error;
+use words::{Fault, item_word, misshapen_words, range_words};
+
+// A size of a workgroup.
+#[derive(Clone, Copy, PartialEq, Eq, Debug)]
+pub enum Axis {
+    X,
+    Y,
+    Z,
+}
+
+// What a mesh shader puts out at most so many of.
+#[derive(Clone, Copy, PartialEq, Eq, Debug)]
+pub enum MeshOutput {
+    Vertices,
+    Primitives,
+}
 
 // The reasons in the order of their numbers, from 1. Names that naga has are naga's. A key is known by its index in the settings
-// file, an override by its number, an expression by its handle before settling or specialising.
-#[derive(Clone, Copy, PartialEq, Debug)]
+// file, an override by its number, an expression by its handle before settling or specialising. In words, the key, record,
+// expression or table comes first, as in the values of the refusal.
+#[derive(Clone, Copy, PartialEq, Debug, Error)]
 pub enum Refusal {
+    #[error("the settings file is short, long or over its limit")]
     MalformedSettings,
+    #[error("key {key} is equal to an earlier key")]
     RepeatedKey {
         key: usize,
     },
+    #[error("{} {}: {}", item_word(.place.table), .place.index, misshapen_words(.place.table))]
     Misshapen {
         place: Place,
     },
+    #[error("{} {}: {}", item_word(.place.table), .place.index, range_words(.place.table))]
     OutOfRange {
         place: Place,
     },
+    #[error("record {record}: here the records cease to be one block at most 64 deep")]
     NotOneBlock {
         record: usize,
     },
+    #[error("no override takes key {key}")]
     NotFound {
         key: usize,
     },
+    #[error("override {number}: it has neither id nor name")]
     Nameless {
         number: usize,
     },
+    #[error("override {number}: it has no value and no init")]
     MissingValue {
         number: usize,
     },
+    #[error("override {number}: the value is not finite")]
     SrcNeedsToBeFinite {
         number: usize,
     },
+    #[error("override {number}: the value does not fit the type")]
     DstRangeTooSmall {
         number: usize,
     },
+    #[error("override {number}: no literal has this scalar type")]
     UnsupportedScalar {
         number: usize,
     },
+    #[error("override {number}: its init comes after the first use of it")]
     InitNotMapped {
         number: usize,
     },
+    // The code is the evaluator's own number of a fault, from 1 to 255, or 0 where it made no constant: its faults are not told apart
+    // here.
+    #[error("expression {handle}: {}", Fault {layer: *.layer, code: *.code})]
     ConstantEvaluatorError {
         handle: Handle,
         layer: u32,
         code: u8,
     },
+    #[error("expression {handle}: it cannot be worked out before the run")]
     RuntimeExpr {
         handle: Handle,
     },
+    #[error("the workgroup size {axis} is no whole number above zero")]
     NegativeWorkgroupSize {
-        axis: u8,
+        axis: Axis,
     },
+    #[error("the largest number of mesh {which} is no whole number from zero")]
     NegativeMeshOutputMax {
-        which: u8,
+        which: MeshOutput,
     },
+    #[error("no room for one more {}", item_word(*.table))]
     Full {
         table: TableName,
     },

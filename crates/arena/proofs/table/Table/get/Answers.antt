@@ -1,9 +1,0 @@
-use Rattle.std.proofs.Common.{rules}
-use Rattle.std.proofs.lemmas.Option.{slice_get_read, slice_get_past}
-use Rattle.arena.proofs.table.Table.get.Goals as goal
-
-pub returns-then-at-len : goal.returns-then-at-len
-returns-then-at-len g c = search (rules, slice_get_read)
-
-pub returns-else-at-len : goal.returns-else-at-len
-returns-else-at-len g c = search (rules, slice_get_past)

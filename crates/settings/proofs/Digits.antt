@@ -1,6 +1,8 @@
 -- A word is a number's decimal digits just where `parse` reads it and it begins well.
-use Rattle.std.proofs.Common.{◌≡◌, ℕ, zero, suc, ◌^◌, ◌<◌, ◌≤◌, ◌⊎◌, List, length, get_or, is_ok, Ok, Err, decimal, Result, sym, ap, ◌∙◌, inl, inr, true≢false, eq-or-lt_of_le, lit<, arith, MatchOption}
-use Rattle.std.proofs.lemmas.Fmt.{decimal_digit, first_decimal, parse-decimal, decimal-digits_value}
+use Rattle.std.proofs.Common.{◌≡◌, ℕ, zero, suc, ◌^◌, ◌<◌, ◌≤◌, ◌⊎◌, List, length, get_or, is_ok, Ok, Err, decimal, Result, sym, ap, subst, ◌∙◌, inl, inr, true≢false, eq-or-lt_of_le, lit<, arith, MatchOption}
+use Rattle.std.proofs.lemmas.Fmt.{decimal_digit, first_decimal, parse-decimal, decimal-digits_value, IsAscii-decimal}
+use Rattle.std.proofs.lemmas.Str.{IsUtf8-from_ascii}
+use Rattle.std.specs.Str.{IsUtf8}
 use Rattle.std.proofs.lemmas.Str.Parse.{IsNumeralModel, numerals_by_value, tells_digits, parse_plain}
 use Rattle.std.proofs.Math.Nat.{pow-le-pow_right}
 use Rattle.std.specs.Str.Parse.{AllDigits, digits_value, ParsesUnsigned}
@@ -38,3 +40,7 @@ read {A} {E} number k bs (Ok x) fits well h =
     let back = decimal-digits_value own bs got.0.0 got.0.1 (λ zeros. single bs got.0.1 (λ more. well (inr (zeros, more)))) (omega (arith, got.0.2, below k fits)) in
     sym back ∙ ap decimal (sym got.1)
 read {A} {E} number k bs (Err e) fits well h = λ n small is. true≢false (sym (ap is_ok (parse-decimal {E = E} k n bs (Err e) small (omega (arith, small, below k fits)) is h)))
+
+-- a number's digits are text
+pub text_decimal : (bs : List ℕ) (n : ℕ) → n ≤ 65535 → bs ≡ decimal n → IsUtf8 bs
+text_decimal bs n small e = subst IsUtf8 (sym e) (IsUtf8-from_ascii (decimal n) (IsAscii-decimal n (omega arith)))

@@ -1,10 +1,11 @@
 -- A settings file, cut into its parts and put together again.
-use Rattle.std.proofs.Common.{◌≡◌, ℕ, zero, suc, ◌+◌, ◌*◌, ◌/◌, ◌%◌, ◌^◌, ◌<◌, ◌≤◌, List, [], ◌∷◌, ◌++◌, map, length, get_or, take, drop, replicate, Some, sum, sym, refl, ap, ◌∙◌, subst, pow-suc, mul-suc, arith}
-use Rattle.std.specs.List.{slice_get, flat_map, AllByRecursion}
-use Rattle.std.proofs.lemmas.List.{take_at, drop_at, take-append-drop, length-take-le, length-drop, length-append, length-map, length-replicate, drop-drop}
-use Rattle.std.proofs.lemmas.List.Sums.{sum_by-cons, sum_by_more, sum_by-take-le}
-use Rattle.std.proofs.ByRecursion.{All-take, All-drop, All-get_or}
-use Rattle.settings.specs.Layout.{bytes_of, number_of, Given, Valid, encode, pieces, eights, Encodes}
+use Rattle.std.proofs.Common.{◌≡◌, ℕ, zero, suc, ◌+◌, ◌*◌, ◌/◌, ◌%◌, ◌^◌, ◌<◌, ◌≤◌, List, [], ◌∷◌, ◌++◌, map, length, get_or, take, drop, sum, sym, refl, ap, ◌∙◌, subst, pow-suc, mul-suc, arith}
+use Rattle.std.specs.Simd.{first_chunks}
+use Rattle.std.specs.List.{flat_map, AllByRecursion, IsSplitAt}
+use Rattle.std.proofs.lemmas.List.{take_at, drop_at, take-append-drop, length-take-le, length-drop, length-append, length-map}
+use Rattle.std.proofs.lemmas.List.Sums.{sum_by-cons}
+use Rattle.std.proofs.ByRecursion.{All-take, All-drop}
+use Rattle.settings.specs.Layout.{bytes_of, number_of, Given, Valid, encode, pieces, Encodes}
 
 abbrev Bytes : List ℕ → Type 0
 Bytes bs = AllByRecursion (λ b. b < 256) bs
@@ -76,7 +77,7 @@ short_pieces (n ∷ ns) bs e h =
 
 -- so many numbers of eight bytes each
 abbrev pub eights_by : ℕ → List ℕ → List ℕ
-eights_by n bs = map number_of (pieces (replicate n 8) bs)
+eights_by n bs = map number_of (first_chunks 8 n bs)
 
 eights_by_joined : (vs : List ℕ) → AllByRecursion (λ v. v < 2 ^ 64) vs → eights_by (length vs) (flat_map (bytes_of 8) vs) ≡ vs
 eights_by_joined [] h = refl
@@ -116,6 +117,13 @@ length_keys (k ∷ ks) =
     let s = sum_by-cons (λ x. x) (length k) (map length ks) in let rest = length_keys ks in
     simp length-append (omega arith)
 
+length_first_chunks : (n : ℕ) (bs : List ℕ) → length (first_chunks 8 n bs) ≡ n
+length_first_chunks zero bs = refl
+length_first_chunks (suc n) bs = ap suc (length_first_chunks n (drop 8 bs))
+
+length_eights_by : (n : ℕ) (bs : List ℕ) → length (eights_by n bs) ≡ n
+length_eights_by n bs = length-map (first_chunks 8 n bs) number_of ∙ length_first_chunks n bs
+
 -- ---- the file
 
 abbrev after : Given → List ℕ
@@ -145,15 +153,7 @@ module _ (low high : ℕ) (rest : List ℕ) (g : Given) (ok : Valid g) (e : enco
       let l : length (map length g.keys) ≡ low + 256 * high = length-map g.keys length ∙ sym the_count in
       ap (drop (low + 256 * high)) the_rest ∙ drop_at (map length g.keys) _ (low + 256 * high) l
 
-  pub in_limits : (low + 256 * high ≤ 4096) × (low + 256 * high ≤ length rest)
-  in_limits =
-      let l = ap length the_rest in
-      let m = length-append (map length g.keys) (flat_map (λ k. k) g.keys ++ flat_map (bytes_of 8) g.values) in
-      let n = length-map g.keys length in
-      let c = the_count in
-      (omega (arith, ok.few), omega arith)
-
-  pub fits : length (drop (low + 256 * high) rest) ≡ sum (take (low + 256 * high) rest) + 8 * (low + 256 * high)
+  fits : length (drop (low + 256 * high) rest) ≡ sum (take (low + 256 * high) rest) + 8 * (low + 256 * high)
   fits =
       let l = ap length the_others ∙ length-append (flat_map (λ k. k) g.keys) (flat_map (bytes_of 8) g.values) in
       let m = length_keys g.keys in
@@ -193,7 +193,7 @@ accept low high rest lengths keys values lo hi few c r k v bl bv =
     let ks = joined_pieces lengths keys k in
     let vs = joined_eights_by (length lengths) values v bv in
     let ln : length (eights_by (length lengths) values) ≡ length lengths =
-    length-map (pieces (replicate (length lengths) 8) values) number_of ∙ length_pieces (replicate (length lengths) 8) values ∙ length-replicate (length lengths) 8 in
+    length_eights_by (length lengths) values in
     let tl : take (low + 256 * high) rest ≡ lengths = ap (take (low + 256 * high)) r ∙ take_at lengths (keys ++ values) (low + 256 * high) c in
     let dl : drop (low + 256 * high) rest ≡ keys ++ values = ap (drop (low + 256 * high)) r ∙ drop_at lengths (keys ++ values) (low + 256 * high) c in
     record {
@@ -202,32 +202,33 @@ accept low high rest lengths keys values lo hi few c r k v bl bv =
       only = λ h ok e. the_same low high rest h ok e lengths keys values tl dl k;
     }
 
-pub two : (head rest : List ℕ) → length head ≡ 2 → head ++ rest ≡ get_or head 0 0 ∷ get_or head 1 0 ∷ rest
-two [] rest h = absurd (omega arith)
-two (a ∷ []) rest h = absurd (omega arith)
-two (a ∷ (b ∷ [])) rest h = refl
-two (a ∷ (b ∷ (c ∷ cs))) rest h = absurd (omega arith)
+-- the two bytes of the count, and the others
+whole : (file head rest : List ℕ) → head ≡ take 2 file → rest ≡ drop 2 file → length rest + 2 ≡ length file → file ≡ get_or head 0 0 ∷ get_or head 1 0 ∷ rest
+whole [] head rest h r l = absurd (omega arith)
+whole (a ∷ []) head rest h r l = absurd (omega (arith, ap length r))
+whole (a ∷ (b ∷ bs)) head rest h r l =
+    let low : get_or head 0 0 ≡ a = ap (λ x. get_or x 0 0) h in
+    let high : get_or head 1 0 ≡ b = ap (λ x. get_or x 1 0) h in cc
 
-parts : (xs ys : List ℕ) → Bytes (xs ++ ys) → Bytes xs × Bytes ys
-parts [] ys h = (tt, h)
-parts (x ∷ xs) ys h = let r = parts xs ys h.1 in ((h.0, r.0), r.1)
+module _ (file head rest : List ℕ) (count : ℕ) (h : head ≡ take 2 file) (r : rest ≡ drop 2 file) (l : length rest + 2 ≡ length file) (c : count ≡ get_or head 0 0 + get_or head 1 0 * 256) where
+  pub room : (g : Given) → Valid g → encode g ≡ file → length (drop count rest) ≡ sum (take count rest) + 8 * count
+  room g ok e =
+      let same : get_or head 0 0 + 256 * get_or head 1 0 ≡ count = omega arith in
+      subst (λ n. length (drop n rest) ≡ sum (take n rest) + 8 * n) same (fits (get_or head 0 0) (get_or head 1 0) rest g ok (e ∙ whole file head rest h r l))
 
-pub accepted : (file head rest lengths others keys values : List ℕ) → Bytes file → file ≡ head ++ rest → length head ≡ 2 →
-    get_or head 0 0 + 256 * get_or head 1 0 ≤ 4096 → rest ≡ lengths ++ others → length lengths ≡ get_or head 0 0 + 256 * get_or head 1 0 →
-    others ≡ keys ++ values → length keys ≡ sum lengths → length others ≡ sum lengths + 8 * length lengths →
-    Encodes file (record { keys = pieces lengths keys; values = eights values })
-accepted file head rest lengths others keys values b e two' few r c o k l =
-    let b1 = parts head rest (subst Bytes e b) in
-    let b2 = parts lengths others (subst Bytes r b1.1) in
-    let b3 = parts keys values (subst Bytes o b2.1) in
-    let whole : file ≡ get_or head 0 0 ∷ get_or head 1 0 ∷ rest = e ∙ two head rest two' in
-    let low : get_or head 0 0 < 256 = All-get_or (λ b. b < 256) head 0 0 (omega arith) b1.0 in
-    let high : get_or head 1 0 < 256 = All-get_or (λ b. b < 256) head 1 0 (omega arith) b1.0 in
-    let v : length values ≡ 8 * length lengths = omega (arith, ap length o ∙ length-append keys values) in
-    let n : length lengths ≡ length values / 8 = omega arith in
-    subst (λ m. Encodes file (record { keys = pieces lengths keys; values = eights_by m values })) n
-    (subst (λ f. Encodes f (record { keys = pieces lengths keys; values = eights_by (length lengths) values })) (sym whole)
-    (accept (get_or head 0 0) (get_or head 1 0) rest lengths keys values low high few c (r ∙ ap (λ x. lengths ++ x) o) k v b2.0 b3.1))
+  pub accepted : (lengths others keys values : List ℕ) → Bytes file → count ≤ 4096 → IsSplitAt rest count lengths others → IsSplitAt others (sum lengths) keys values →
+      length values ≡ 8 * count → Encodes file (record { keys = pieces lengths keys; values = eights_by (length values / 8) values })
+  accepted lengths others keys values b few p q v =
+      let e = whole file head rest h r l in
+      let all = subst Bytes e b in
+      let bytes : Bytes others = subst Bytes (sym p.2) (All-drop _ count rest all.1.1) in
+      let n : length lengths ≡ length values / 8 = omega (arith, p.3) in
+      let joined : rest ≡ lengths ++ (keys ++ values) =
+      sym (take-append-drop count rest) ∙ ap (λ x. x ++ drop count rest) (sym p.1) ∙ ap (λ x. lengths ++ x) (sym p.2 ∙ sym (take-append-drop (sum lengths) others) ∙ ap (λ x. x ++ drop (sum lengths) others) (sym q.1) ∙ ap (λ x. keys ++ x) (sym q.2)) in
+      subst (λ m. Encodes file (record { keys = pieces lengths keys; values = eights_by m values })) n
+      (subst (λ f. Encodes f (record { keys = pieces lengths keys; values = eights_by (length lengths) values })) (sym e)
+      (accept (get_or head 0 0) (get_or head 1 0) rest lengths keys values all.0 all.1.0 (omega arith) (p.3 ∙ c ∙ omega arith) joined q.3 (omega (arith, p.3))
+      (subst Bytes (sym p.1) (All-take _ count rest all.1.1)) (subst Bytes (sym q.2) (All-drop _ (sum lengths) others bytes))))
 
 -- what is within the format is the only such that its encoding encodes
 pub encodes_valid : (g : Given) → Valid g → Encodes (encode g) g
@@ -238,26 +239,7 @@ encodes_valid g ok =
     (the_lengths (n % 256) ((n / 256) % 256) (after g) g ok refl) (the_others (n % 256) ((n / 256) % 256) (after g) g ok refl) (length_keys g.keys) in
     record { valid = ok; is = refl; only = λ h fine e. to h fine e ∙ sym (to g ok refl) }
 
--- ---- one key
-
-pub piece_at : (ns bs : List ℕ) (i : ℕ) → i < length ns → slice_get (pieces ns bs) i ≡ Some (take (get_or ns i 0) (drop (sum (take i ns)) bs))
-piece_at [] bs i h = absurd (omega arith)
-piece_at (n ∷ ns) bs zero h = refl
-piece_at (n ∷ ns) bs (suc i) h =
-    let s : sum (n ∷ take i ns) ≡ n + sum (take i ns) = sum_by-cons (λ x. x) n (take i ns) in
-    let d = drop-drop (sum (take i ns)) n bs in
-    piece_at ns (drop n bs) i (omega arith) ∙ ap (λ r. Some (take (get_or ns i 0) r)) (d ∙ ap (λ m. drop m bs) (omega arith))
-
-pub piece_fits : (ns : List ℕ) (i : ℕ) → i < length ns → sum (take i ns) + get_or ns i 0 ≤ sum ns
-piece_fits ns i h = omega (arith, sum_by_more (λ x. x) ns i 0 h, sum_by-take-le (λ x. x) ns (i + 1))
-
 -- ---- one value
-
-pub eight_at : (n i : ℕ) (bs : List ℕ) → i < n → slice_get (eights_by n bs) i ≡ Some (number_of (take 8 (drop (8 * i) bs)))
-eight_at zero i bs h = absurd (omega arith)
-eight_at (suc n) zero bs h = refl
-eight_at (suc n) (suc i) bs h =
-    eight_at n i (drop 8 bs) (omega arith) ∙ ap (λ r. Some (number_of (take 8 r))) (drop-drop (8 * i) 8 bs ∙ ap (λ m. drop m bs) (omega (arith, mul-suc 8 i)))
 
 pub number_8 : (bs : List ℕ) → length bs ≡ 8 → number_of bs
     ≡ get_or bs 0 0 + get_or bs 1 0 * 256 + get_or bs 2 0 * 65536 + get_or bs 3 0 * 16777216 + get_or bs 4 0 * 4294967296 + get_or bs 5 0 * 1099511627776
@@ -272,6 +254,3 @@ number_8 (a ∷ (b ∷ (c ∷ (d ∷ (e ∷ []))))) l = absurd (omega arith)
 number_8 (a ∷ (b ∷ (c ∷ (d ∷ (e ∷ (f ∷ [])))))) l = absurd (omega arith)
 number_8 (a ∷ (b ∷ (c ∷ (d ∷ (e ∷ (f ∷ (g ∷ []))))))) l = absurd (omega arith)
 number_8 (a ∷ (b ∷ (c ∷ (d ∷ (e ∷ (f ∷ (g ∷ (h ∷ (i ∷ is))))))))) l = absurd (omega arith)
-
-pub length_eights_by : (n : ℕ) (bs : List ℕ) → length (eights_by n bs) ≡ n
-length_eights_by n bs = length-map (pieces (replicate n 8) bs) number_of ∙ length_pieces (replicate n 8) bs ∙ length-replicate n 8

@@ -1,6 +1,5 @@
 pub mod Places
 pub mod Format
-pub mod Walk
-pub mod Numeral
+pub mod Overrides
 pub mod Emit
 pub mod Digits

@@ -1,5 +1,5 @@
 -- A settings file: a count, so many lengths of keys, the keys, so many values.
-use Rattle.std.specs.Prelude.{◌≡◌, ℕ, zero, suc, ◌+◌, ◌*◌, ◌/◌, ◌%◌, ◌^◌, ◌<◌, ◌≤◌, List, [], ◌∷◌, ◌++◌, map, length, take, drop, replicate, Some, None}
+use Rattle.std.specs.Prelude.{◌≡◌, ℕ, zero, suc, ◌+◌, ◌*◌, ◌/◌, ◌%◌, ◌^◌, ◌<◌, ◌≤◌, List, [], ◌∷◌, ◌++◌, map, length, take, drop, Some, None}
 use Rattle.std.specs.List.{slice_get, flat_map, AllByRecursion}
 use Rattle.settings.specs.First.{Least, Holds}
 
@@ -52,7 +52,3 @@ Distinct ks = Least (Repeats ks) None
 abbrev pub pieces : List ℕ → List ℕ → List (List ℕ)
 pieces [] bs = []
 pieces (n ∷ ns) bs = take n bs ∷ pieces ns (drop n bs)
-
--- the numbers of eight bytes each
-abbrev pub eights : List ℕ → List ℕ
-eights bs = map number_of (pieces (replicate (length bs / 8) 8) bs)

@@ -5,3 +5,4 @@ pub mod Keys
 pub mod Reading
 pub mod Written
 pub mod Decimals
+pub mod Walks

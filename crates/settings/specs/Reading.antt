@@ -1,11 +1,12 @@
 -- What is read of a settings file.
-use Rattle.std.specs.Prelude.{◌≡◌, ℕ, ◌≤◌, ◌⊎◌, List, [], ◌∷◌, length, Some, None, Ok, Err, Option, Result, ◌≢◌, from_bits, Float}
+use Rattle.std.specs.Prelude.{◌≡◌, ℕ, ◌≤◌, ◌⊎◌, List, [], ◌∷◌, map, length, Some, None, Ok, Err, Option, Result, ◌≢◌, from_bits, Float}
 use Rattle.std.specs.Float.{binary64}
 use Rattle.std.specs.Borrow.{Bor}
 use Rattle.std.specs.List.{slice_get}
 use Rattle.std.specs.Option.{option_map}
 use Rattle.settings.specs.First.{Least, Holds}
-use Rattle.settings.specs.Layout.{Given, Valid, encode, Encodes, Repeats, Distinct, pieces, eights}
+use Rattle.settings.specs.Layout.{Given, Valid, encode, Encodes, Repeats, Distinct, number_of}
+use Rattle.settings.specs.Walks.{keys_left}
 use Rattle.settings.specs.Codes.{code_of}
 use Rattle.settings.specs.Keys.{Taken}
 use Rattle.settings.specs.declared.error.SettingsError.{SettingsError}
@@ -14,7 +15,7 @@ use Rattle.settings.specs.declared.file.Settings.{Settings}
 
 -- the settings that these parts of a file stand for
 abbrev pub given : Settings → Given
-given s = record { keys = pieces s.lengths.now s.keys.now; values = eights s.values.now }
+given s = record { keys = keys_left s.keys; values = map number_of s.values.now }
 
 -- the bytes are no settings file
 abbrev pub Unreadable : List ℕ → Type 0

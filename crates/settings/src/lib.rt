@@ -7,6 +7,8 @@
 mod decimals;
 mod error;
 mod file;
+mod iter;
+mod keys;
 mod naming;
 #[cfg(test)]
 mod tests;
@@ -19,5 +21,6 @@ pub const LONGEST_KEY: usize = 255;
 pub use decimals::{Decimal, read_decimal};
 pub use error::SettingsError;
 pub use file::Settings;
+pub use iter::Iter;
 pub use naming::{Identifier, Key, is_taken, read_key, takes};
 pub use writing::{Setting, WriteError, write};

@@ -1,5 +1,7 @@
 ghost use Rattle.std.specs.Prelude.{Decides};
-ghost use Rattle.settings.specs.Keys.{Keyed, Plain, Valued, Takes, Taken};
+ghost use Rattle.settings.specs.Keys.{Keyed, Takes, Taken};
+
+use crate::decimals::read_decimal;
 
 // What the bytes of a key say.
 #[derive(Clone, Copy)]
@@ -19,60 +21,25 @@ pub struct Identifier<'n> {
 pub fn read_key(bytes: &[u8]) -> Key<'_>
     ensures { Keyed bytes.now result }
 {
-    if !plain(bytes) {
-        return Key::Name(bytes);
+    if let Ok(word) = str::from_utf8(bytes)
+        && let Some(n) = read_decimal(word)
+    {
+        return Key::Number(n);
     }
-    match number(bytes) {
-        Some(n) => Key::Number(n),
-        None => Key::Name(bytes),
-    }
-}
-
-// Whether there are bytes, with no zero in front of others.
-fn plain(bytes: &[u8]) -> bool
-    ensures { Decides result (Plain bytes.now) }
-{
-    match bytes {
-        [] => false,
-        [first, rest @ ..] => *first != b'0' || rest.len() == 0,
-    }
-}
-
-const LARGEST_NUMBER: u32 = 65535;
-
-// The number that digits write, if it is no more than 65,535.
-fn number(bytes: &[u8]) -> Option<u16>
-    ensures { Valued bytes.now result }
-{
-    let mut n: u32 = 0;
-    for b in bytes {
-        if *b < b'0' {
-            return None;
-        }
-        if *b > b'9' {
-            return None;
-        }
-        n = 10 * n + (*b - b'0') as u32;
-        if n > LARGEST_NUMBER {
-            return None;
-        }
-    }
-    Some(n as u16)
+    Key::Name(bytes)
 }
 
 // Whether an override takes a key: by its id if it has one, and else by its name.
 pub fn takes(who: Identifier<'_>, key: &[u8]) -> bool
     ensures { Decides result (Takes who.entry key.now) }
 {
-    if let Some(id) = who.id {
-        return match read_key(key) {
+    match (who.id, who.name) {
+        (Some(id), _) => match read_key(key) {
             Key::Number(n) => n == id,
             Key::Name(_) => false,
-        };
-    }
-    match who.name {
-        Some(name) => name == key,
-        None => false,
+        },
+        (None, Some(name)) => name == key,
+        (None, None) => false,
     }
 }
 
@@ -80,10 +47,5 @@ pub fn takes(who: Identifier<'_>, key: &[u8]) -> bool
 pub fn is_taken(key: &[u8], overrides: &[Identifier<'_>]) -> bool
     ensures { Decides result (Taken overrides.now key.now) }
 {
-    for who in overrides {
-        if takes(*who, key) {
-            return true;
-        }
-    }
-    false
+    overrides.iter().any(|who| takes(*who, key))
 }

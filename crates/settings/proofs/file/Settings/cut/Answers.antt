@@ -1,26 +1,32 @@
-use Rattle.std.proofs.Common.{◌≡◌, ◌<◌, length, sum, ap, ◌∙◌, arith}
+use Rattle.std.proofs.Common.{ℕ, ◌<◌, List, map, length, sum, sym, ap, subst, arith}
+use Rattle.std.specs.List.{IsSplitAt}
 use Rattle.std.proofs.ByRecursion.{All-from_get_or}
-use Rattle.settings.proofs.Format.{in_limits, fits, accepted, two}
+use Rattle.settings.specs.Layout.{Encodes, number_of, pieces}
+use Rattle.settings.specs.Reading.{CutInto}
+use Rattle.settings.proofs.Format.{room, accepted}
 use Rattle.settings.proofs.file.Settings.cut.Goals as goal
 
-pub returns-then-count-min : goal.returns-then-count-min
-returns-then-count-min c = λ g ok e.
-    let f = c.split_at.ensures.by_index.0 ∙ two _ c.split_at.result.1.now c.split_at.ensures.front_len in
-    let l = in_limits _ _ _ g ok (e ∙ f) in
-    omega (arith, l.0, l.1)
+pub returns-in_err-bytes : goal.returns-in_err-bytes
+returns-in_err-bytes c =
+    let head = c.in_ok-head.ensures.cases in let lengths = c.in_ok-lengths.ensures.cases in
+    let short : length c.in_ok-lengths.rest.now < c.total.result = c.in_err-bytes.ensures.cases in
+    subst (CutInto c.args.file.now) (sym c.from_residual-in_err-bytes.ensures)
+    (λ g ok e. let fits = room c.args.file.now c.in_ok-head.head.now c.in_ok-head.rest.now c.from-count.result head.0 head.1 head.2 (omega (arith, c.from_le_bytes.ensures)) g ok e in
+    omega (arith, ap length lengths.2, ap sum lengths.1))
 
-pub returns-then-rest-bytes : goal.returns-then-rest-bytes
-returns-then-rest-bytes c = λ g ok e.
-    let f = c.split_at.ensures.by_index.0 ∙ two _ c.split_at.result.1.now c.split_at.ensures.front_len in
-    let l = fits _ _ _ g ok (e ∙ f) in
-    let b = ap length c.split_at-2.ensures.back in
-    let d = ap sum c.split_at-2.ensures.front in
-    omega (arith, c.if-rest-bytes.true)
+pub returns-then-rest-count : goal.returns-then-rest-count
+returns-then-rest-count c = λ g ok e.
+    let head = c.in_ok-head.ensures.cases in let lengths = c.in_ok-lengths.ensures.cases in let bytes = c.in_ok-bytes.ensures.cases in
+    let fits = room c.args.file.now c.in_ok-head.head.now c.in_ok-head.rest.now c.from-count.result head.0 head.1 head.2 (omega (arith, c.from_le_bytes.ensures)) g ok e in
+    omega (arith, ap length lengths.2, ap sum lengths.1, bytes.4)
 
 pub returns : goal.returns
 returns c =
-    let keys : length c.split_at-3.result.0.now ≡ sum c.split_at-2.result.0.now = c.split_at-3.ensures.front_len ∙ c.total-bytes.ensures.is in
-    accepted c.args.file.now c.split_at.result.0.now c.split_at.result.1.now c.split_at-2.result.0.now
-    c.split_at-2.result.1.now c.split_at-3.result.0.now c.split_at-3.result.1.now
-    (All-from_get_or (λ b. b < 256) c.args.file.now 0 (λ i l. (c.type_inv.file i).fits)) c.split_at.ensures.by_index.0 c.split_at.ensures.front_len (omega arith)
-    c.split_at-2.ensures.by_index.0 c.split_at-2.ensures.front_len c.split_at-3.ensures.by_index.0 keys (omega arith)
+    let head = c.in_ok-head.ensures.cases in
+    let bytes : IsSplitAt c.in_ok-lengths.rest.now (sum c.in_ok-lengths.lengths.now) c.in_ok-bytes.bytes.now c.in_ok-bytes.rest.now =
+    subst (λ n. IsSplitAt c.in_ok-lengths.rest.now n c.in_ok-bytes.bytes.now c.in_ok-bytes.rest.now) c.total.ensures c.in_ok-bytes.ensures.cases in
+    let read = accepted c.args.file.now c.in_ok-head.head.now c.in_ok-head.rest.now c.from-count.result head.0 head.1 head.2 (omega (arith, c.from_le_bytes.ensures))
+    c.in_ok-lengths.lengths.now c.in_ok-lengths.rest.now c.in_ok-bytes.bytes.now c.in_ok-bytes.rest.now
+    (All-from_get_or (λ b. b < 256) c.args.file.now 0 (λ i l. (c.type_inv.file i).fits)) (omega arith) c.in_ok-lengths.ensures.cases bytes (omega arith) in
+    subst (λ (vs : List (List ℕ)). Encodes c.args.file.now (record { keys = pieces c.in_ok-lengths.lengths.now c.in_ok-bytes.bytes.now; values = map number_of vs })) (sym c.as_chunks.ensures.front)
+    read

@@ -1,38 +1,22 @@
-use Rattle.std.proofs.Common.{ℕ, Some, ap, ◌∙◌, arith, below_more}
-use Rattle.std.proofs.lemmas.Bool.Decides.{not_from_Decides}
-use Rattle.settings.specs.First.{Holds}
-use Rattle.settings.specs.Layout.{pieces}
+use Rattle.std.proofs.Common.{rules, tests, inl, arith}
+use Rattle.std.proofs.lemmas.Iterator.{IsFirst-from_position}
+use Rattle.std.proofs.lemmas.Iterator.Consumers.{YieldsList-from_first}
+use Rattle.settings.specs.First.{Least, Holds}
 use Rattle.settings.specs.Keys.{Takes}
-use Rattle.settings.proofs.Places.{within, not_here, same_place}
+use Rattle.settings.specs.Walks.{keys_left}
 use Rattle.settings.proofs.Format.{length_pieces}
-use Rattle.settings.proofs.Walk.{left_more, piece_here}
-use Rattle.settings.proofs.Numeral.{takes_same}
+use Rattle.settings.proofs.Places.{least_found}
+use Rattle.settings.proofs.Overrides.{only_taker}
 use Rattle.settings.proofs.file.Settings.find.Goals as goal
 
-pub loop-i-preserved : goal.loop-i-preserved
-loop-i-preserved c =
-    let ns = c.args.self.now.lengths.now in let bs = c.args.self.now.keys.now in let i = c.loop-i.i in
-    let here = piece_here ns bs c.loop-i.rest.now i c.loop-i-test.true c.loop-i.invariant.0 _ c.split_up_to.ensures.front in (
-      left_more ns bs c.loop-i.rest.now i c.loop-i-test.true c.loop-i.invariant.0 _ c.split_up_to.ensures.back,
-      below_more _ _ c.loop-i.invariant.1
-          (not_here (Takes c.args.who) (pieces ns bs) i _ here (not_from_Decides _ c.takes.ensures c.if-takes.false)),
-    )
-
-pub returns-then-takes : goal.returns-then-takes
-returns-then-takes c =
-    let ns = c.args.self.now.lengths.now in let bs = c.args.self.now.keys.now in let i = c.loop-i.i in
-    let here = piece_here ns bs c.loop-i.rest.now i c.loop-i-test.true c.loop-i.invariant.0 _ c.split_up_to.ensures.front in
-    let took = c.takes.ensures.0 c.if-takes.true in
-    record {
-      first = ((c.split_up_to.result.0.now, here, took), c.loop-i.invariant.1);
-      only = λ d. (
-        (c.split_up_to.result.0.now, here, took),
-        λ j h. same_place (pieces ns bs) j i _ d (h.1 ∙ ap Some (takes_same c.args.who _ _ h.2 took)) here,
-      );
-    }
+first : (c : goal.After-position) → Least (Holds (Takes c.args.who) (keys_left c.args.self.now.keys)) c.position.result
+first c =
+    least_found (Takes c.args.who) (λ k. Takes c.args.who k → ⊥) (keys_left c.args.self.now.keys) c.position.result (λ x no yes. no yes)
+    (IsFirst-from_position c.position.new.self _ c.position.result (Takes c.args.who) (λ k. Takes c.args.who k → ⊥) c.position.ensures.ran
+    (YieldsList-from_first (λ y. y.now) keys_left (keys_left c.args.self.now.keys) c.keys.ensures) (λ x q k. search (rules, tests)) (λ x q k. search (rules, tests)))
 
 pub returns : goal.returns
-returns c =
-    let ns = c.args.self.now.lengths.now in let bs = c.args.self.now.keys.now in
-    let none : (k : ℕ) → Holds (Takes c.args.who) (pieces ns bs) k → ⊥ = λ k h. c.loop-i.invariant.1 k (omega (arith, within (pieces ns bs) k _ h.1, length_pieces ns bs)) h in
-    record { first = none; only = λ d. none }
+returns c = record { first = first c; only = only_taker c.args.who (keys_left c.args.self.now.keys) c.position.result (first c) }
+
+pub position-requires-clause-fits : goal.position-requires-clause-fits
+position-requires-clause-fits c = inl (omega (arith, c.keys.type_inv, length_pieces c.keys.result.lengths.now c.keys.result.bytes.now))

@@ -1,30 +1,28 @@
-use Rattle.std.proofs.Common.{take, sym, ap, ◌∙◌, subst, arith, below_more}
-use Rattle.std.proofs.lemmas.Bool.Decides.{not_from_Decides}
-use Rattle.settings.specs.Layout.{pieces, Among}
-use Rattle.settings.proofs.Places.{within, not_here}
+use Rattle.std.proofs.Common.{◌≡◌, length, refl, ap, subst, rules, tests, inl, arith}
+use Rattle.std.proofs.lemmas.Iterator.{IsFirst-from_position}
+use Rattle.std.proofs.lemmas.Iterator.Consumers.{YieldsList-from_first, YieldsList-from_enumerate, YieldsList-at}
+use Rattle.settings.specs.First.{Least}
+use Rattle.settings.specs.Layout.{Repeats}
+use Rattle.settings.specs.Walks.{keys_left}
 use Rattle.settings.proofs.Format.{length_pieces}
-use Rattle.settings.proofs.Walk.{left_more, piece_here, pieces_take}
+use Rattle.settings.proofs.Places.{Earlier, least_repeated}
 use Rattle.settings.proofs.file.Settings.first_repeated.Goals as goal
 
-pub loop-i-preserved : goal.loop-i-preserved
-loop-i-preserved c =
-    let ns = c.args.self.now.lengths.now in let bs = c.args.self.now.keys.now in let i = c.loop-i.i in
-    let here = piece_here ns bs c.loop-i.rest.now i c.loop-i-test.true c.loop-i.invariant.0 _ c.split_up_to.ensures.front in
-    let q = ap (λ x. pieces x bs) c.split_at.ensures.front ∙ pieces_take ns bs i in (
-      left_more ns bs c.loop-i.rest.now i c.loop-i-test.true c.loop-i.invariant.0 _ c.split_up_to.ensures.back,
-      below_more _ _ c.loop-i.invariant.1
-          (not_here (λ k. Among k (take i (pieces ns bs))) (pieces ns bs) i _ here
-          (λ a. not_from_Decides _ c.is_among.ensures c.if-is_among.false (subst (Among _) (sym q) a))),
-    )
+pub position-requires-clause-can : goal.position-requires-clause-can
+position-requires-clause-can c =
+    let same : length (keys_left c.enumerate.result.iter) ≡ length (keys_left c.keys-keys.result) = ap (λ k. length (keys_left k)) c.enumerate.ensures.source in
+    (tt, tt, inl (omega (arith, c.keys-keys.type_inv, length_pieces c.keys-keys.result.lengths.now c.keys-keys.result.bytes.now, c.enumerate.ensures.count)))
 
-pub returns-then-is_among : goal.returns-then-is_among
-returns-then-is_among c =
-    let ns = c.args.self.now.lengths.now in let bs = c.args.self.now.keys.now in let i = c.loop-i.i in
-    let here = piece_here ns bs c.loop-i.rest.now i c.loop-i-test.true c.loop-i.invariant.0 _ c.split_up_to.ensures.front in
-    let q = ap (λ x. pieces x bs) c.split_at.ensures.front ∙ pieces_take ns bs i in
-    ((c.split_up_to.result.0.now, here, subst (Among _) q (c.is_among.ensures.0 c.if-is_among.true)), c.loop-i.invariant.1)
+pub position-requires-clause-fits : goal.position-requires-clause-fits
+position-requires-clause-fits c =
+    let same : length (keys_left c.enumerate.result.iter) ≡ length (keys_left c.keys-keys.result) = ap (λ k. length (keys_left k)) c.enumerate.ensures.source in
+    inl (omega (arith, c.keys-keys.type_inv, length_pieces c.keys-keys.result.lengths.now c.keys-keys.result.bytes.now))
 
 pub returns : goal.returns
-returns c = λ k h.
-    let ns = c.args.self.now.lengths.now in let bs = c.args.self.now.keys.now in
-    c.loop-i.invariant.1 k (omega (arith, within (pieces ns bs) k _ h.1, length_pieces ns bs)) h
+returns c =
+    let ks = keys_left c.keys-keys.result in
+    subst (λ all. Least (Repeats all) c.position.result) c.keys-keys.ensures
+    (least_repeated ks c.position.result
+    (IsFirst-from_position c.position.new.self _ c.position.result (Earlier ks) (λ p. Earlier ks p → ⊥) c.position.ensures.ran
+    (YieldsList-from_enumerate (YieldsList-at c.enumerate.ensures.source (YieldsList-from_first (λ y. y.now) keys_left ks refl)) c.enumerate.ensures.count)
+    (λ x q k. search (rules, tests)) (λ x q k. search (rules, tests))))

@@ -61,9 +61,9 @@ fn read_handle(word: &str) -> Result<u32, Fault>
 fn read_init(words: &[&str]) -> Result<Option<u32>, Fault> {
     match words {
         [] => Err(Fault::TooFewWords),
-        [word] if *word == "-" => Ok(None),
-        [word, handle] if *word == "init" => Ok(Some(read_handle(handle)?)),
-        [word, _, ..] if *word == "-" || *word == "init" => Err(Fault::TooManyWords),
+        ["-"] => Ok(None),
+        ["init", handle] => read_handle(handle).map(Some),
+        ["-" | "init", _, ..] => Err(Fault::TooManyWords),
         _ => Err(Fault::BadInit),
     }
 }

@@ -1,3 +1,2 @@
-mod Plain
 mod Named
 mod Quoted

@@ -1,9 +1,13 @@
 -- What has no scalar's name.
-use Rattle.std.proofs.Common.{◌≡◌, ℕ, ◌<◌, Bool, true, false, cond, eqb, ◌⊎◌, List, ◌++◌, Some, None, codes, decimal, Option, sym, refl, ap, ◌∙◌, inl, inr, arith, MatchOption}
+use Rattle.std.proofs.Common.{◌≡◌, ◌≢◌, ℕ, ◌<◌, List, [], ◌∷◌, ◌++◌, Some, None, decimal, Option, sym, ap, ◌∙◌, arith, MatchOption, unwrap_or, refl, subst, is_some, true, get_or, Bor}
+use Rattle.std.specs.Option.{option_map}
+use Rattle.std.specs.List.{AllWithin}
 use mathlib.Core.List.{append_cancel_left}
-use borrow.Author.Tests.{eqb-false}
+use Rattle.std.proofs.lemmas.Bool.Decides.{nat_tests}
 use Rattle.std.proofs.lemmas.Fmt.{decimal_injective}
-use Rattle.listing.specs.Names.{sint_name, uint_name, float_name, bool_name}
+use Rattle.rounding.specs.declared.scalars.ScalarKind.{ScalarKind}
+use Rattle.rounding.specs.declared.scalars.ScalarKind.TheVariants.{Sint, Uint, Float, Bool}
+use Rattle.listing.specs.Names.{kind_word, short_name, kind_name}
 
 -- what is read after the name of a kind
 pub widths : (word kind digits : List ℕ) (r : Option ℕ) → word ≡ kind ++ digits → MatchOption r ((n : ℕ) → n < 256 → digits ≡ decimal n → ⊥) (λ n. digits ≡ decimal n) → MatchOption r ((w : ℕ) → w < 256 → word ≡ kind ++ decimal w → ⊥) (λ w. word ≡ kind ++ decimal w)
@@ -14,18 +18,40 @@ widths word kind digits (Some n) e h = e ∙ ap (λ l. kind ++ l) h
 pub one_width : (word kind : List ℕ) (v w : ℕ) → v < 256 → w < 256 → word ≡ kind ++ decimal v → word ≡ kind ++ decimal w → w ≡ v
 one_width word kind v w v_small w_small e is = decimal_injective w v (omega (arith, w_small)) (omega (arith, v_small)) (append_cancel_left kind (decimal w) (decimal v) (sym is ∙ e))
 
-chosen : (b : Bool) (x y bs : List ℕ) → bs ≡ cond b x y → (bs ≡ x) ⊎ ((b ≡ false) × (bs ≡ y))
-chosen true x y bs e = inl e
-chosen false x y bs e = inr (refl, e)
+-- no other width has a name of its own
+no_short : (k : ScalarKind) (w : ℕ) → w ≢ 1 → w ≢ 2 → w ≢ 4 → w ≢ 8 → short_name k w ≡ None
+no_short Sint w n1 n2 n4 n8 = grind (arith, nat_tests)
+no_short Uint w n1 n2 n4 n8 = grind (arith, nat_tests)
+no_short Float w n1 n2 n4 n8 = grind (arith, nat_tests)
+no_short Bool w n1 n2 n4 n8 = grind (arith, nat_tests)
 
-pub sint_none : (bs : List ℕ) → (bs ≡ codes "i16" → ⊥) → (bs ≡ codes "i32" → ⊥) → ((w : ℕ) → w < 256 → (w ≡ 2 → ⊥) → (w ≡ 4 → ⊥) → bs ≡ codes "sint" ++ decimal w → ⊥) → (w : ℕ) → w < 256 → bs ≡ sint_name w → ⊥
-sint_none bs no2 no4 other w small e = elim (chosen (eqb w 2) (codes "i16") (cond (eqb w 4) (codes "i32") (codes "sint" ++ decimal w)) bs e) [ inl is2 ↦ no2 is2 | inr f2 ↦ elim (chosen (eqb w 4) (codes "i32") (codes "sint" ++ decimal w) bs f2.1) [ inl is4 ↦ no4 is4 | inr f4 ↦ other w small (eqb-false w 2 f2.0) (eqb-false w 4 f4.0) f4.1 ] ]
+pub shorts : (k : ScalarKind) (word : List ℕ) → AllWithin (λ w. short_name k w ≢ Some word) (1 ∷ 2 ∷ 4 ∷ 8 ∷ []) 0 4 → (w : ℕ) → short_name k w ≢ Some word
+shorts k word none w e =
+    let n1 : w ≢ 1 = λ is. none 0 0 (omega arith) (omega arith) (subst (λ v. short_name k v ≡ Some word) is e) in
+    let n2 : w ≢ 2 = λ is. none 1 0 (omega arith) (omega arith) (subst (λ v. short_name k v ≡ Some word) is e) in
+    let n4 : w ≢ 4 = λ is. none 2 0 (omega arith) (omega arith) (subst (λ v. short_name k v ≡ Some word) is e) in
+    let n8 : w ≢ 8 = λ is. none 3 0 (omega arith) (omega arith) (subst (λ v. short_name k v ≡ Some word) is e) in
+    cc (no_short k w n1 n2 n4 n8)
 
-pub uint_none : (bs : List ℕ) → (bs ≡ codes "u16" → ⊥) → (bs ≡ codes "u32" → ⊥) → ((w : ℕ) → w < 256 → (w ≡ 2 → ⊥) → (w ≡ 4 → ⊥) → bs ≡ codes "uint" ++ decimal w → ⊥) → (w : ℕ) → w < 256 → bs ≡ uint_name w → ⊥
-uint_none bs no2 no4 other w small e = elim (chosen (eqb w 2) (codes "u16") (cond (eqb w 4) (codes "u32") (codes "uint" ++ decimal w)) bs e) [ inl is2 ↦ no2 is2 | inr f2 ↦ elim (chosen (eqb w 4) (codes "u32") (codes "uint" ++ decimal w) bs f2.1) [ inl is4 ↦ no4 is4 | inr f4 ↦ other w small (eqb-false w 2 f2.0) (eqb-false w 4 f4.0) f4.1 ] ]
+pub weaker : {A : Type 0} {P P' : Type 0} {Q Q' : A → Type 0} (r : Option A) → MatchOption r P Q → (P → P') → ((x : A) → Q x → Q' x) → MatchOption r P' Q'
+weaker None h f g = f h
+weaker (Some x) h f g = g x h
 
-pub float_none : (bs : List ℕ) → (bs ≡ codes "f16" → ⊥) → (bs ≡ codes "f32" → ⊥) → (bs ≡ codes "f64" → ⊥) → ((w : ℕ) → w < 256 → (w ≡ 2 → ⊥) → (w ≡ 4 → ⊥) → (w ≡ 8 → ⊥) → bs ≡ codes "float" ++ decimal w → ⊥) → (w : ℕ) → w < 256 → bs ≡ float_name w → ⊥
-float_none bs no2 no4 no8 other w small e = elim (chosen (eqb w 2) (codes "f16") (cond (eqb w 4) (codes "f32") (cond (eqb w 8) (codes "f64") (codes "float" ++ decimal w))) bs e) [ inl is2 ↦ no2 is2 | inr f2 ↦ elim (chosen (eqb w 4) (codes "f32") (cond (eqb w 8) (codes "f64") (codes "float" ++ decimal w)) bs f2.1) [ inl is4 ↦ no4 is4 | inr f4 ↦ elim (chosen (eqb w 8) (codes "f64") (codes "float" ++ decimal w) bs f4.1) [ inl is8 ↦ no8 is8 | inr f8 ↦ other w small (eqb-false w 2 f2.0) (eqb-false w 4 f4.0) (eqb-false w 8 f8.0) f8.1 ] ] ]
+named : (o : Option (List ℕ)) (word long : List ℕ) → o ≢ Some word → (o ≡ None → word ≢ long) → word ≢ unwrap_or o long
+named None word long own other e = other refl e
+named (Some name) word long own other e = own (ap Some (sym e))
 
-pub bool_none : (bs : List ℕ) → (bs ≡ codes "bool" → ⊥) → ((w : ℕ) → w < 256 → (w ≡ 1 → ⊥) → bs ≡ codes "bool" ++ decimal w → ⊥) → (w : ℕ) → w < 256 → bs ≡ bool_name w → ⊥
-bool_none bs no1 other w small e = elim (chosen (eqb w 1) (codes "bool") (codes "bool" ++ decimal w) bs e) [ inl is1 ↦ no1 is1 | inr f1 ↦ other w small (eqb-false w 1 f1.0) f1.1 ]
+-- neither a name of its own nor one by word and width
+pub not_named : (k : ScalarKind) (word : List ℕ) → ((w : ℕ) → short_name k w ≢ Some word) → ((w : ℕ) → w < 256 → short_name k w ≡ None → word ≢ kind_word k ++ decimal w) → (w : ℕ) → w < 256 → word ≢ kind_name k w
+not_named k word own other w small = named (short_name k w) word (kind_word k ++ decimal w) (own w) (other w small)
+
+pub none_named : (o : Option (Bor (List ℕ))) → is_some o ≡ true → option_map (λ s. s.now) o ≡ None → ⊥
+none_named None h e = cc
+none_named (Some x) h e = cc
+
+-- every kind is in the list that is gone through
+pub each_kind : (P : ScalarKind → Type 0) → ((i : ℕ) → i < 4 → P (get_or (Sint ∷ Uint ∷ Float ∷ Bool ∷ []) i Sint)) → (k : ScalarKind) → P k
+each_kind P h Sint = h 0 (omega arith)
+each_kind P h Uint = h 1 (omega arith)
+each_kind P h Float = h 2 (omega arith)
+each_kind P h Bool = h 3 (omega arith)

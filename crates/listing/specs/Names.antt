@@ -1,26 +1,26 @@
 -- The name of each scalar.
-use Rattle.std.specs.Prelude.{ℕ, cond, List, ◌++◌, codes, decimal, ◌==◌}
+use Rattle.std.specs.Prelude.{ℕ, cond, List, ◌++◌, Some, None, codes, decimal, Option, ◌==◌, unwrap_or}
 use Rattle.rounding.specs.declared.scalars.Scalar.{Scalar}
 use Rattle.rounding.specs.declared.scalars.ScalarKind.{ScalarKind}
 use Rattle.rounding.specs.declared.scalars.ScalarKind.TheVariants.{Sint, Uint, Float, Bool}
 
-abbrev pub sint_name : ℕ → List ℕ
-sint_name w = cond (w == 2) (codes "i16") (cond (w == 4) (codes "i32") (codes "sint" ++ decimal w))
+-- what stands before a width
+abbrev pub kind_word : ScalarKind → List ℕ
+kind_word Sint = codes "sint"
+kind_word Uint = codes "uint"
+kind_word Float = codes "float"
+kind_word Bool = codes "bool"
 
-abbrev pub uint_name : ℕ → List ℕ
-uint_name w = cond (w == 2) (codes "u16") (cond (w == 4) (codes "u32") (codes "uint" ++ decimal w))
+-- the name by which literals have the type
+abbrev pub short_name : ScalarKind → ℕ → Option (List ℕ)
+short_name Sint w = cond (w == 2) (Some (codes "i16")) (cond (w == 4) (Some (codes "i32")) None)
+short_name Uint w = cond (w == 2) (Some (codes "u16")) (cond (w == 4) (Some (codes "u32")) None)
+short_name Float w = cond (w == 2) (Some (codes "f16")) (cond (w == 4) (Some (codes "f32")) (cond (w == 8) (Some (codes "f64")) None))
+short_name Bool w = cond (w == 1) (Some (codes "bool")) None
 
-abbrev pub float_name : ℕ → List ℕ
-float_name w = cond (w == 2) (codes "f16") (cond (w == 4) (codes "f32") (cond (w == 8) (codes "f64") (codes "float" ++ decimal w)))
-
-abbrev pub bool_name : ℕ → List ℕ
-bool_name w = cond (w == 1) (codes "bool") (codes "bool" ++ decimal w)
-
+-- and where there is none, the kind's word and the width
 abbrev pub kind_name : ScalarKind → ℕ → List ℕ
-kind_name Sint w = sint_name w
-kind_name Uint w = uint_name w
-kind_name Float w = float_name w
-kind_name Bool w = bool_name w
+kind_name k w = unwrap_or (short_name k w) (kind_word k ++ decimal w)
 
 abbrev pub scalar_name : Scalar → List ℕ
 scalar_name s = kind_name s.kind s.width

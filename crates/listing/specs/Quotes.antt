@@ -1,6 +1,7 @@
 -- How a key is written as text.
 use Rattle.std.specs.Prelude.{◌≡◌, ℕ, ◌-◌, ◌/◌, ◌%◌, ◌<◌, Bool, cond, not, ◌&&◌, T, ◌⊎◌, List, [], ◌∷◌, ◌++◌, length, ◌==◌, ◌≢◌, nat_le, slice_index}
 use Rattle.std.specs.Char.{digit_char}
+use Rattle.std.specs.List.{flat_map}
 
 -- printable, and neither = nor "
 abbrev pub plain_byte : ℕ → Bool
@@ -19,8 +20,7 @@ byte_text b = cond (shown_byte b) (b ∷ []) (escape b)
 
 -- what stands between the quotes
 abbrev pub inner : List ℕ → List ℕ
-inner [] = []
-inner (b ∷ bs) = byte_text b ++ inner bs
+inner bs = flat_map byte_text bs
 
 abbrev pub Bytes : List ℕ → Type 0
 Bytes bs = (k : ℕ) → slice_index bs k < 256

@@ -3,7 +3,6 @@
 
 mod faults;
 mod keys;
-mod numbers;
 mod overrides;
 mod scalars;
 mod values;

@@ -3,11 +3,10 @@ ghost use Rattle.std.specs.Prelude.{◌≡◌, ℕ, ◌^◌, ◌<◌, IfOk, stri
 ghost use Rattle.std.specs.Option.{option_map};
 ghost use Rattle.listing.specs.declared.faults.Fault.TheVariants.{BadId, BadInit};
 
-use crate::faults::{Fault, ListingError, is_skipped, on_line};
-use crate::numbers::{read_u16, read_u32};
+use crate::faults::{Fault, ListingError, read_lines};
 use crate::scalars::read_scalar;
 use rounding::Scalar;
-use settings::Identifier;
+use settings::{Identifier, read_decimal};
 use std::alloc::{AllocError, Global};
 
 // The largest handle of an expression is one less.
@@ -27,10 +26,7 @@ impl OverrideLine {
         ensures id { result.id ≡ self.now.id }
         ensures name { option_map (λ x. x.now) result.name ≡ option_map string_bytes self.now.name }
     {
-        let name = match &self.name {
-            Some(name) => Some(name.as_bytes()),
-            None => None,
-        };
+        let name = self.name.as_deref().map(|name| name.as_bytes());
         Identifier { id: self.id, name }
     }
 }
@@ -41,10 +37,7 @@ fn read_id(word: &str) -> Result<Option<u16>, Fault>
     if word == "-" {
         return Ok(None);
     }
-    match read_u16(word) {
-        Some(id) => Ok(Some(id)),
-        None => Err(Fault::BadId),
-    }
+    read_decimal(word).map(Some).ok_or(Fault::BadId)
 }
 
 fn read_name(heap: Global, word: &str) -> Result<Option<String>, AllocError>
@@ -59,19 +52,18 @@ fn read_name(heap: Global, word: &str) -> Result<Option<String>, AllocError>
 fn read_handle(word: &str) -> Result<u32, Fault>
     ensures { MatchResult result (λ n. (n < 4294967295) × (word.now ≡ decimal n)) (λ e. e ≡ BadInit) }
 {
-    match read_u32(word) {
-        Some(handle) if handle < HANDLES => Ok(handle),
-        _ => Err(Fault::BadInit),
-    }
+    read_decimal::<u32>(word)
+        .filter(|handle| *handle < HANDLES)
+        .ok_or(Fault::BadInit)
 }
 
 // The words after the scalar.
 fn read_init(words: &[&str]) -> Result<Option<u32>, Fault> {
     match words {
         [] => Err(Fault::TooFewWords),
-        [word] if *word == "-" => Ok(None),
-        [word, handle] if *word == "init" => Ok(Some(read_handle(handle)?)),
-        [word, _, ..] if *word == "-" || *word == "init" => Err(Fault::TooManyWords),
+        ["-"] => Ok(None),
+        ["init", handle] => read_handle(handle).map(Some),
+        ["-" | "init", _, ..] => Err(Fault::TooManyWords),
         _ => Err(Fault::BadInit),
     }
 }
@@ -83,9 +75,7 @@ fn read_override(heap: Global, line: &str) -> Result<OverrideLine, Fault> {
     };
     let id = read_id(id)?;
     let name = read_name(heap, name)?;
-    let Some(scalar) = read_scalar(scalar) else {
-        return Err(Fault::BadScalar);
-    };
+    let scalar = read_scalar(scalar).ok_or(Fault::BadScalar)?;
     let init = read_init(init)?;
     Ok(OverrideLine {
         id,
@@ -95,17 +85,6 @@ fn read_override(heap: Global, line: &str) -> Result<OverrideLine, Fault> {
     })
 }
 
-fn add_override(heap: Global, all: &mut Vec<OverrideLine>, line: &str) -> Result<(), Fault> {
-    all.push(read_override(heap, line)?)?;
-    Ok(())
-}
-
 pub fn read_overrides(heap: Global, text: &str) -> Result<Vec<OverrideLine>, ListingError> {
-    let mut all = Vec::new(heap);
-    for (i, line) in text.lines().enumerate() {
-        if !is_skipped(line) {
-            on_line(i.saturating_add(1), add_override(heap, &mut all, line))?;
-        }
-    }
-    Ok(all)
+    read_lines(heap, text, |_, line| read_override(heap, line))
 }

@@ -1,5 +1,5 @@
 // The text of a settings file: a line `key = value` for each setting.
-use crate::faults::{Fault, ListingError, is_skipped, on_line};
+use crate::faults::{Fault, ListingError, read_lines};
 use crate::keys::read_key_text;
 use std::alloc::Global;
 use std::fmt;
@@ -11,40 +11,15 @@ pub struct SettingLine {
     pub value: f64,
 }
 
-fn read_setting(heap: Global, number: usize, line: &str) -> Result<SettingLine, Fault> {
-    let Some((key, value)) = line.split_once('=') else {
-        return Err(Fault::NoEquals);
-    };
+fn read_setting(heap: Global, line: usize, words: &str) -> Result<SettingLine, Fault> {
+    let (key, value) = words.split_once('=').ok_or(Fault::NoEquals)?;
     let key = read_key_text(heap, key.trim().as_bytes())?;
-    match value.trim().parse::<f64>() {
-        Ok(value) => Ok(SettingLine {
-            line: number,
-            key,
-            value,
-        }),
-        Err(_) => Err(Fault::BadValue),
-    }
-}
-
-fn add_setting(
-    heap: Global,
-    all: &mut Vec<SettingLine>,
-    number: usize,
-    line: &str,
-) -> Result<(), Fault> {
-    all.push(read_setting(heap, number, line)?)?;
-    Ok(())
+    let value = value.trim().parse::<f64>().map_err(|_| Fault::BadValue)?;
+    Ok(SettingLine { line, key, value })
 }
 
 pub fn read_settings(heap: Global, text: &str) -> Result<Vec<SettingLine>, ListingError> {
-    let mut all = Vec::new(heap);
-    for (i, line) in text.lines().enumerate() {
-        let number = i.saturating_add(1);
-        if !is_skipped(line) {
-            on_line(number, add_setting(heap, &mut all, number, line))?;
-        }
-    }
-    Ok(all)
+    read_lines(heap, text, |line, words| read_setting(heap, line, words))
 }
 
 // A value, shown so that `parse` gives it back: with an exponent where it is very large or small.

@@ -2,7 +2,7 @@
 use Rattle.std.specs.Prelude.{◌≡◌, ℕ, ◌+◌, min, List, length, Some, None, Ok, Err, Option, Result}
 use Rattle.std.specs.Float.Ieee as Ieee
 use Rattle.rounding.specs.declared.scalars.Scalar.{Scalar}
-use Rattle.rounding.specs.Conversion.{Becomes}
+use Rattle.rounding.specs.Conversion.{code_of, Becomes}
 use Rattle.settings.specs.declared.naming.Identifier.{Identifier}
 use Rattle.settings.specs.declared.file.Settings.{Settings}
 use Rattle.settings.specs.First.{Least, Holds}
@@ -10,7 +10,9 @@ use Rattle.settings.specs.Layout.{Given, Encodes, Distinct}
 use Rattle.settings.specs.Keys.{Takes}
 use Rattle.settings.specs.Reading.{value_at, Read}
 use Rattle.report.specs.declared.outcomes.Outcome.{Outcome}
-use Rattle.report.specs.declared.outcomes.Outcome.TheVariants.{Made, Refused, Kept, MissingValue, NoIdentifier}
+use Rattle.report.specs.declared.outcomes.Outcome.TheVariants.{Made, Kept}
+use Rattle.report.specs.declared.outcomes.Unresolved.{Unresolved}
+use Rattle.report.specs.declared.outcomes.Unresolved.TheVariants.{Refused, MissingValue, NoIdentifier}
 use Rattle.report.specs.declared.errors.ReportError.{ReportError}
 use Rattle.report.specs.declared.errors.ReportError.TheVariants.{Settings as Unread, Text, Unwritten}
 use Rattle.report.specs.declared.outcomes.Tally.{Tally}
@@ -29,23 +31,27 @@ Nameless who = (who.id ≡ None) × (who.name ≡ None)
 
 -- An override with neither id nor name is refused with 7. The value of the key that it takes becomes a literal by the rule, or is refused by it.
 -- With no value the init stays, and with no init either it is refused with 8.
-abbrev pub Resolved : Given → Identifier → Scalar → Option ℕ → Outcome → Type 0
-Resolved g who scalar init (Made k x l) = TakesValue g who k x × Becomes scalar x (Ok l)
-Resolved g who scalar init (Refused k x e) = TakesValue g who k x × Becomes scalar x (Err e)
-Resolved g who scalar init (Kept i) = NoValue g who × (init ≡ Some i) × (Nameless who → ⊥)
-Resolved g who scalar init MissingValue = NoValue g who × (init ≡ None) × (Nameless who → ⊥)
-Resolved g who scalar init NoIdentifier = Nameless who
+abbrev pub Resolved : Given → Identifier → Scalar → Option ℕ → Result Outcome Unresolved → Type 0
+Resolved g who scalar init (Ok (Made k x l)) = TakesValue g who k x × Becomes scalar x (Ok l)
+Resolved g who scalar init (Ok (Kept i)) = NoValue g who × (init ≡ Some i) × (Nameless who → ⊥)
+Resolved g who scalar init (Err (Refused k x e)) = TakesValue g who k x × Becomes scalar x (Err e)
+Resolved g who scalar init (Err MissingValue) = NoValue g who × (init ≡ None) × (Nameless who → ⊥)
+Resolved g who scalar init (Err NoIdentifier) = Nameless who
+
+-- the numbers of the refusals
+abbrev pub refusal_code : Unresolved → ℕ
+refusal_code (Refused k x e) = code_of e
+refusal_code MissingValue = 8
+refusal_code NoIdentifier = 7
 
 -- one more, up to the largest count
 abbrev pub more : ℕ → ℕ
 more n = min (n + 1) 18446744073709551615
 
-abbrev pub counted : Tally → Outcome → Tally
-counted t (Made k x l) = record { overrides = more t.overrides; literals = more t.literals; inits = t.inits; refused = t.refused; untaken = t.untaken }
-counted t (Refused k x e) = record { overrides = more t.overrides; literals = t.literals; inits = t.inits; refused = more t.refused; untaken = t.untaken }
-counted t (Kept i) = record { overrides = more t.overrides; literals = t.literals; inits = more t.inits; refused = t.refused; untaken = t.untaken }
-counted t MissingValue = record { overrides = more t.overrides; literals = t.literals; inits = t.inits; refused = more t.refused; untaken = t.untaken }
-counted t NoIdentifier = record { overrides = more t.overrides; literals = t.literals; inits = t.inits; refused = more t.refused; untaken = t.untaken }
+abbrev pub counted : Tally → Result Outcome Unresolved → Tally
+counted t (Ok (Made k x l)) = record { overrides = more t.overrides; literals = more t.literals; inits = t.inits; refused = t.refused; untaken = t.untaken }
+counted t (Ok (Kept i)) = record { overrides = more t.overrides; literals = t.literals; inits = more t.inits; refused = t.refused; untaken = t.untaken }
+counted t (Err e) = record { overrides = more t.overrides; literals = t.literals; inits = t.inits; refused = more t.refused; untaken = t.untaken }
 
 -- the file holds settings with no key twice
 abbrev pub Readable : List ℕ → Type 0

@@ -1,76 +1,56 @@
 // Why there is no report.
-use listing::{Fault, ListingError};
+ghost use Rattle.std.specs.Prelude.{◌≡◌};
+ghost use Rattle.report.specs.declared.errors.ReportError.TheVariants.{Settings as Unread};
+
+use listing::ListingError;
 use settings::{SettingsError, WriteError};
-use std::alloc::{AllocError, AllocFailed};
+use std::alloc::AllocError;
 use std::fmt;
+use thiserror::Error;
 
 // Why a text was not read, or not made.
-#[derive(Debug, Drop)]
+#[derive(Debug, Drop, Error)]
 pub enum TextError {
     // A line of a text was not understood.
-    Listing(ListingError),
-    OutOfMemory,
+    #[error(transparent)]
+    Listing(#[from] ListingError),
+    #[error("memory ran out")]
+    OutOfMemory(#[from(alloc)] AllocError),
 }
 
-#[derive(Debug, Drop)]
+#[derive(Debug, Drop, Error)]
 pub enum ReportError {
     // The settings file was refused.
+    #[error("refusal {code}, {error}", code = .0.code(), error = .0)]
     Settings(SettingsError),
+    #[error(transparent)]
     Text(TextError),
     // The settings of a text make no file; the line is that of the setting which is to blame.
+    #[error("{place}{error}", place = Place(*.line))]
     Unwritten {
         line: Option<usize>,
         error: WriteError,
     },
 }
 
-impl fmt::Display for TextError {
+// By hand, since the clause `Told` names this variant.
+impl From<SettingsError> for ReportError {
+    ghost from_gives = { λ e r. r ≡ Unread e };
+
+    fn from(error: SettingsError) -> ReportError {
+        ReportError::Settings(error)
+    }
+}
+
+// The line in front of a message, if it is known.
+#[derive(Clone, Copy)]
+struct Place(Option<usize>);
+
+impl fmt::Display for Place {
     fn fmt<W: fmt::Write>(&self, f: &mut fmt::Formatter<W>) -> fmt::Result {
-        match self {
-            TextError::Listing(error) => write!(f, "{error}"),
-            TextError::OutOfMemory => f.write_str("memory ran out"),
+        match self.0 {
+            Some(line) => write!(f, "line {line}: "),
+            None => Ok(()),
         }
-    }
-}
-
-impl fmt::Display for ReportError {
-    fn fmt<W: fmt::Write>(&self, f: &mut fmt::Formatter<W>) -> fmt::Result {
-        match self {
-            ReportError::Settings(error) => {
-                let code = error.code();
-                write!(f, "refusal {code}, {error}")
-            }
-            ReportError::Text(error) => write!(f, "{error}"),
-            ReportError::Unwritten {
-                line: Some(line),
-                error,
-            } => write!(f, "line {line}: {error}"),
-            ReportError::Unwritten { line: None, error } => write!(f, "{error}"),
-        }
-    }
-}
-
-impl From<ListingError> for TextError {
-    fn from(error: ListingError) -> TextError {
-        TextError::Listing(error)
-    }
-}
-
-impl From<AllocError> for TextError {
-    fn from(_e: AllocError) -> TextError {
-        TextError::OutOfMemory
-    }
-}
-
-impl<T: Drop> From<AllocFailed<T>> for TextError {
-    fn from(_e: AllocFailed<T>) -> TextError {
-        TextError::OutOfMemory
-    }
-}
-
-// A report is written to a String, which fails only for want of memory.
-impl From<fmt::Error> for TextError {
-    fn from(_e: fmt::Error) -> TextError {
-        TextError::OutOfMemory
     }
 }

@@ -11,5 +11,5 @@ mod tests;
 
 pub use errors::{ReportError, TextError};
 pub use literals::{Report, report_literals};
-pub use outcomes::{Outcome, Tally, resolve};
+pub use outcomes::{Outcome, Tally, Unresolved, resolve};
 pub use packing::{Packed, pack, unpack};

@@ -1,11 +1,11 @@
 // What becomes of an override under a settings file, and how often each thing happened.
-ghost use Rattle.std.specs.Prelude.{◌≡◌, ◌+◌, min, Some, None};
+ghost use Rattle.std.specs.Prelude.{◌≡◌, ◌+◌, min, MatchOption};
 ghost use Rattle.settings.specs.Reading.{given};
-ghost use Rattle.report.specs.declared.outcomes.Outcome.TheVariants.{Kept, MissingValue};
-ghost use Rattle.report.specs.Outcomes.{Resolved, counted, more};
+ghost use Rattle.report.specs.Outcomes.{TakesValue, NoValue, Resolved, refusal_code, counted, more};
 
 use rounding::{ConversionError, Literal, Scalar, map_value_to_literal};
 use settings::{Identifier, Settings};
+use thiserror::Error;
 
 #[derive(Clone, Copy, PartialEq, Debug)]
 pub enum Outcome {
@@ -15,30 +15,49 @@ pub enum Outcome {
         value: f64,
         literal: Literal,
     },
-    // The value of the key was refused: 9, 10 or 11.
+    // No key gives a value, and the init stays.
+    Kept {
+        init: u32,
+    },
+}
+
+// Why an override is refused.
+#[derive(Clone, Copy, PartialEq, Debug, Error)]
+pub enum Unresolved {
+    // The value of the key makes no literal.
+    #[error("{error}")]
     Refused {
         key: usize,
         value: f64,
         error: ConversionError,
     },
-    // No key gives a value, and the init stays.
-    Kept {
-        init: u32,
-    },
-    // 8: no key gives a value, and there is no init.
+    // No key gives a value, and there is no init.
+    #[error("a value is missing")]
     MissingValue,
-    // 7: there is neither an id nor a name.
+    #[error("the override has neither an id nor a name")]
     NoIdentifier,
 }
 
-// What becomes of an override that no value is given to.
-fn without_value(init: Option<u32>) -> Outcome
-    ensures { elim init [ Some i ↦ result ≡ Kept i | None ↦ result ≡ MissingValue ] }
-{
-    match init {
-        Some(init) => Outcome::Kept { init },
-        None => Outcome::MissingValue,
+impl Unresolved {
+    // The refusal's number.
+    pub fn code(&self) -> u8
+        ensures { result ≡ refusal_code self.now }
+    {
+        match self {
+            Unresolved::Refused { error, .. } => error.code(),
+            Unresolved::MissingValue => 8,
+            Unresolved::NoIdentifier => 7,
+        }
     }
+}
+
+// The key that an override takes, and its value.
+fn taken(settings: &Settings<'_>, who: Identifier<'_>) -> Option<(usize, f64)>
+    ensures { MatchOption result (NoValue (given settings.now) who.entry) (λ x. TakesValue (given settings.now) who.entry x.0 x.1) }
+{
+    let key = settings.find(who)?;
+    let value = settings.value(key)?;
+    Some((key, value))
 }
 
 // What becomes of the override that is known so, has this scalar type and this init.
@@ -47,29 +66,27 @@ pub fn resolve(
     who: Identifier<'_>,
     scalar: Scalar,
     init: Option<u32>,
-) -> Outcome
+) -> Result<Outcome, Unresolved>
     ensures { Resolved (given settings.now) who.entry scalar init result }
 {
     if who.id.is_none() && who.name.is_none() {
-        return Outcome::NoIdentifier;
+        return Err(Unresolved::NoIdentifier);
     }
-    let Some(key) = settings.find(who) else {
-        return without_value(init);
-    };
-    let Some(value) = settings.value(key) else {
-        return without_value(init);
+    let Some((key, value)) = taken(settings, who) else {
+        let kept = init.map(|init| Outcome::Kept { init });
+        return kept.ok_or(Unresolved::MissingValue);
     };
     match map_value_to_literal(value, scalar) {
-        Ok(literal) => Outcome::Made {
+        Ok(literal) => Ok(Outcome::Made {
             key,
             value,
             literal,
-        },
-        Err(error) => Outcome::Refused { key, value, error },
+        }),
+        Err(error) => Err(Unresolved::Refused { key, value, error }),
     }
 }
 
-#[derive(Clone, Copy, PartialEq, Eq, Debug)]
+#[derive(Clone, Copy, PartialEq, Eq, Debug, Default)]
 pub struct Tally {
     pub overrides: usize,
     pub literals: usize,
@@ -79,26 +96,14 @@ pub struct Tally {
 }
 
 impl Tally {
-    pub(crate) fn new() -> Tally
-        ensures { result ≡ record { overrides = 0; literals = 0; inits = 0; refused = 0; untaken = 0 } }
-    {
-        Tally {
-            overrides: 0,
-            literals: 0,
-            inits: 0,
-            refused: 0,
-            untaken: 0,
-        }
-    }
-
-    pub(crate) fn count(&mut self, outcome: &Outcome)
+    pub(crate) fn count(&mut self, outcome: &Result<Outcome, Unresolved>)
         ensures { self.new ≡ counted self.old outcome.now }
     {
         self.overrides = self.overrides.saturating_add(1);
-        match *outcome {
-            Outcome::Made { .. } => self.literals = self.literals.saturating_add(1),
-            Outcome::Kept { .. } => self.inits = self.inits.saturating_add(1),
-            _ => self.refused = self.refused.saturating_add(1),
+        match outcome {
+            Ok(Outcome::Made { .. }) => self.literals = self.literals.saturating_add(1),
+            Ok(Outcome::Kept { .. }) => self.inits = self.inits.saturating_add(1),
+            Err(_) => self.refused = self.refused.saturating_add(1),
         }
     }
 

@@ -24,64 +24,48 @@ impl fmt::Display for Packed {
     }
 }
 
-fn lent(heap: Global, lines: &[SettingLine]) -> Result<Vec<Setting<'_>>, AllocError> {
-    let mut all = Vec::new(heap);
-    for line in lines {
-        all.push(Setting {
-            key: line.key.as_slice(),
-            value: line.value,
-        })?;
-    }
-    Ok(all)
-}
-
 // The line of the setting that is to blame.
 fn blamed(lines: &[SettingLine], error: &WriteError) -> Option<usize> {
-    let key = match error {
-        WriteError::KeyTooLong { key } => *key,
-        WriteError::RepeatedKey { key } => *key,
-        _ => return None,
-    };
-    let line = lines.get(key)?;
-    Some(line.line)
+    match error {
+        WriteError::KeyTooLong { key } | WriteError::RepeatedKey { key } => lines
+            .get(*key)
+            .map(|line| line.line),
+        _ => None,
+    }
 }
 
-fn read_lines(heap: Global, text: &str) -> Result<Vec<SettingLine>, TextError> {
-    Ok(read_settings(heap, text)?)
+fn lent(heap: Global, lines: &[SettingLine]) -> Result<Vec<Setting<'_>>, AllocError> {
+    lines
+        .iter()
+        .map(|line| Setting {
+            key: line.key.as_slice(),
+            value: line.value,
+        })
+        .collect(heap)
 }
 
 // The settings file of a text.
 pub fn pack(heap: Global, text: &str) -> Result<Packed, ReportError>
     ensures { IfOk result (λ p. Packs p.bytes.items p.settings) }
 {
-    let lines = match read_lines(heap, text) {
-        Ok(lines) => lines,
-        Err(error) => return Err(ReportError::Text(error)),
-    };
-    let all = match lent(heap, lines.as_slice()) {
-        Ok(all) => all,
-        Err(_) => return Err(ReportError::Text(TextError::OutOfMemory)),
-    };
-    match settings::write(heap, all.as_slice()) {
-        Ok(bytes) => Ok(Packed {
-            settings: all.len(),
-            bytes,
-        }),
-        Err(error) => {
-            let line = blamed(lines.as_slice(), &error);
-            Err(ReportError::Unwritten { line, error })
-        }
-    }
+    let lines = read_settings(heap, text).map_err(|error| ReportError::Text(error.into()))?;
+    let all = lent(heap, lines.as_slice()).map_err(|error| ReportError::Text(error.into()))?;
+    let bytes = settings::write(heap, all.as_slice()).map_err(|error| ReportError::Unwritten {
+        line: blamed(lines.as_slice(), &error),
+        error,
+    })?;
+    Ok(Packed {
+        settings: all.len(),
+        bytes,
+    })
 }
 
 fn settings_text(heap: Global, settings: &Settings<'_>) -> Result<String, TextError> {
     let mut out = String::new(heap);
-    for i in 0..settings.len() {
-        if let (Some(key), Some(value)) = (settings.key(i), settings.value(i)) {
-            let key = key_text(heap, key)?;
-            let value = ValueText(value);
-            writeln!(out, "{key} = {value}")?;
-        }
+    for Setting { key, value } in settings.iter() {
+        let key = key_text(heap, key)?;
+        let value = ValueText(value);
+        writeln!(out, "{key} = {value}")?;
     }
     Ok(out)
 }
@@ -90,11 +74,6 @@ fn settings_text(heap: Global, settings: &Settings<'_>) -> Result<String, TextEr
 pub fn unpack(heap: Global, file: &[u8]) -> Result<String, ReportError>
     ensures { Told file.now result }
 {
-    match Settings::read(file) {
-        Ok(settings) => match settings_text(heap, &settings) {
-            Ok(text) => Ok(text),
-            Err(error) => Err(ReportError::Text(error)),
-        },
-        Err(error) => Err(ReportError::Settings(error)),
-    }
+    let settings = Settings::read(file)?;
+    settings_text(heap, &settings).map_err(ReportError::Text)
 }

@@ -72,24 +72,15 @@ fn put_value<W: fmt::Write>(f: &mut fmt::Formatter<W>, literal: Literal) -> fmt:
     }
 }
 
-// How many hexadecimal digits the literal's bits have.
-fn hex_digits(literal: Literal) -> u8 {
-    match literal {
+fn put_bits<W: fmt::Write>(f: &mut fmt::Formatter<W>, literal: Literal) -> fmt::Result {
+    let bits = literal.bits();
+    let digits = match literal {
         Literal::Bool(_) => 1,
         Literal::I16(_) | Literal::U16(_) | Literal::F16(_) => 4,
         Literal::I32(_) | Literal::U32(_) | Literal::F32(_) => 8,
         _ => 16,
-    }
-}
-
-fn put_bits<W: fmt::Write>(f: &mut fmt::Formatter<W>, literal: Literal) -> fmt::Result {
-    let bits = literal.bits();
-    match hex_digits(literal) {
-        1 => write!(f, "bits 0x{bits:x}"),
-        4 => write!(f, "bits 0x{bits:04x}"),
-        8 => write!(f, "bits 0x{bits:08x}"),
-        _ => write!(f, "bits 0x{bits:016x}"),
-    }
+    };
+    write!(f, "bits 0x{bits:0digits$x}")
 }
 
 impl fmt::Display for LiteralText {

@@ -1,28 +1,21 @@
 // The commands: each reads its files, asks the library for the text, and prints it.
 use crate::failures::Failure;
-use crate::files::{in_file, load, load_text, store};
-use crate::words::{Command, HELP, read_command};
+use crate::files::{load, load_text, on_file, store};
+use crate::help::HELP;
 use report::{ReportError, TextError, pack, report_literals, unpack};
 use std::env;
-
-// The file that an error of `literals` is about.
-fn blamed<'p>(error: &ReportError, settings: &'p str, overrides: &'p str) -> &'p str {
-    match error {
-        ReportError::Text(TextError::Listing(_)) => overrides,
-        _ => settings,
-    }
-}
 
 fn run_literals(rt: &HostRuntime, settings: &str, overrides: &str) -> Result<(), Failure> {
     let heap = rt.alloc();
     let file = load(rt, settings)?;
     let text = load_text(rt, overrides)?;
     let made = report_literals(heap, file.as_slice(), text.as_str());
+    // the lines that are read are those of the overrides
     let path = match &made {
-        Err(error) => blamed(error, settings, overrides),
-        Ok(_) => settings,
+        Err(ReportError::Text(TextError::Listing(_))) => overrides,
+        _ => settings,
     };
-    let report = in_file(heap, path, made)?;
+    let report = on_file(heap, path, made)?;
     rt.print(report.text.as_str())?;
     match report.tally.refusals() {
         0 => Ok(()),
@@ -33,7 +26,7 @@ fn run_literals(rt: &HostRuntime, settings: &str, overrides: &str) -> Result<(),
 fn run_pack(rt: &HostRuntime, text: &str, out: &str) -> Result<(), Failure> {
     let heap = rt.alloc();
     let lines = load_text(rt, text)?;
-    let packed = in_file(heap, text, pack(heap, lines.as_str()))?;
+    let packed = on_file(heap, text, pack(heap, lines.as_str()))?;
     store(rt, out, packed.bytes.as_slice())?;
     println!(rt; "{out}: {packed}")?;
     Ok(())
@@ -42,26 +35,26 @@ fn run_pack(rt: &HostRuntime, text: &str, out: &str) -> Result<(), Failure> {
 fn run_unpack(rt: &HostRuntime, settings: &str) -> Result<(), Failure> {
     let heap = rt.alloc();
     let file = load(rt, settings)?;
-    let text = in_file(heap, settings, unpack(heap, file.as_slice()))?;
+    let text = on_file(heap, settings, unpack(heap, file.as_slice()))?;
     rt.print(text.as_str())?;
     Ok(())
 }
 
+fn run_help(rt: &HostRuntime) -> Result<(), Failure> {
+    rt.print(HELP)?;
+    Ok(())
+}
+
+// Runs the command that the words after the program's own name ask for.
 pub(crate) fn run(rt: &HostRuntime) -> Result<(), Failure> {
-    let words: Vec<String> = env::args(rt)?.skip(1).collect(rt.alloc())?;
-    match read_command(words.as_slice()) {
-        Some(
-            Command::Literals {
-                settings,
-                overrides,
-            },
-        ) => run_literals(rt, settings, overrides),
-        Some(Command::Pack { text, out }) => run_pack(rt, text, out),
-        Some(Command::Unpack { settings }) => run_unpack(rt, settings),
-        Some(Command::Help) => {
-            rt.print(HELP)?;
-            Ok(())
-        }
-        None => Err(Failure::Usage),
+    let heap = rt.alloc();
+    let args: Vec<String> = env::args(rt)?.skip(1).collect(heap)?;
+    let words: Vec<&str> = args.iter().map(|word| word.as_str()).collect(heap)?;
+    match words.as_slice() {
+        ["literals", settings, overrides] => run_literals(rt, settings, overrides),
+        ["pack", text, out] => run_pack(rt, text, out),
+        ["unpack", settings] => run_unpack(rt, settings),
+        ["help"] => run_help(rt),
+        _ => Err(Failure::Usage),
     }
 }

@@ -1,44 +1,32 @@
 // Why the program ends with status 1.
 use report::ReportError;
 use std::alloc::AllocError;
-use std::{fmt, io};
+use std::io;
+use thiserror::Error;
 
-#[derive(Drop)]
+// What is wrong with a file.
+#[derive(Debug, Drop, Error)]
+pub enum FileError {
+    // It could not be read or written.
+    #[error(transparent)]
+    Access(#[from] io::Error),
+    // What it holds was not accepted.
+    #[error(transparent)]
+    Content(#[from] ReportError),
+}
+
+#[derive(Debug, Drop, Error)]
 pub enum Failure {
+    #[error("not a command with its files: tebulgai help lists them")]
     Usage,
-    // A file could not be read or written.
-    File { path: String, error: io::Error },
-    // What a file holds was not accepted.
-    Content { path: String, error: ReportError },
+    #[error("{path}: {error}")]
+    File { path: String, error: FileError },
     // Overrides or keys were refused, and the report says which.
+    #[error("{n} {noun}", n = *.0, noun = if *.0 == 1 {"refusal"} else {"refusals"})]
     Refusals(usize),
-    Output(io::Error),
-    OutOfMemory,
-}
-
-impl fmt::Display for Failure {
-    fn fmt<W: fmt::Write>(&self, f: &mut fmt::Formatter<W>) -> fmt::Result {
-        match self {
-            Failure::Usage => f.write_str("not a command with its files: tebulgai help lists them"),
-            Failure::File { path, error } => write!(f, "{path}: {error}"),
-            Failure::Content { path, error } => write!(f, "{path}: {error}"),
-            Failure::Refusals(1) => f.write_str("1 refusal"),
-            Failure::Refusals(n) => write!(f, "{n} refusals"),
-            Failure::Output(error) => write!(f, "the output was not written: {error}"),
-            Failure::OutOfMemory => f.write_str("memory ran out"),
-        }
-    }
-}
-
-// An error of the output, since errors of files are given their path.
-impl From<io::Error> for Failure {
-    fn from(error: io::Error) -> Failure {
-        Failure::Output(error)
-    }
-}
-
-impl From<AllocError> for Failure {
-    fn from(_e: AllocError) -> Failure {
-        Failure::OutOfMemory
-    }
+    // An error of the output, since errors of files are given their path.
+    #[error("the output was not written: {0}")]
+    Output(#[from] io::Error),
+    #[error("memory ran out")]
+    OutOfMemory(#[from(alloc)] AllocError),
 }

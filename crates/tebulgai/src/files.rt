@@ -1,33 +1,19 @@
 // Whole files, read and written.
-use crate::failures::Failure;
-use report::ReportError;
+use crate::failures::{Failure, FileError};
 use std::alloc::Global;
 use std::{fs, io};
 
-// What was done to the file, or its error with the path.
-pub(crate) fn on_file<T>(heap: Global, path: &str, done: io::Result<T>) -> Result<T, Failure> {
-    match done {
-        Ok(x) => Ok(x),
-        Err(error) => match String::from_str(heap, path) {
-            Ok(path) => Err(Failure::File { path, error }),
-            Err(_) => Err(Failure::OutOfMemory),
-        },
-    }
-}
-
-// What was made of the file's content, or its error with the path.
-pub(crate) fn in_file<T>(
+// What was done with the file, or its error with the path.
+pub(crate) fn on_file<T, E: Into<FileError> + Drop>(
     heap: Global,
     path: &str,
-    made: Result<T, ReportError>,
+    done: Result<T, E>,
 ) -> Result<T, Failure> {
-    match made {
-        Ok(x) => Ok(x),
-        Err(error) => match String::from_str(heap, path) {
-            Ok(path) => Err(Failure::Content { path, error }),
-            Err(_) => Err(Failure::OutOfMemory),
-        },
-    }
+    done.try_map_err(|error| {
+        let path = String::from_str(heap, path)?;
+        let error = error.into();
+        Ok(Failure::File { path, error })
+    })
 }
 
 pub(crate) fn load(rt: &HostRuntime, path: &str) -> Result<Vec<u8>, Failure> {

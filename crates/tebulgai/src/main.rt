@@ -4,7 +4,7 @@
 mod commands;
 mod failures;
 mod files;
-mod words;
+mod help;
 
 use commands::run;
 use std::process::ExitCode;

@@ -1,4 +1,4 @@
-// What the words of the command line ask for.
+// What `help` prints.
 
 pub const HELP: &str = "tebulgai: values for the overrides of a shader module
 
@@ -18,44 +18,3 @@ Refusals: 1 malformed file, 2 repeated key, 6 key that no override takes, 7 neit
 8 no value and no init, 9 value not finite, 10 value does not fit, 11 no literal of that scalar.
 The status is 0 where nothing is refused, and else 1.
 ";
-
-#[derive(Clone, Copy)]
-pub enum Command<'w> {
-    Literals {
-        settings: &'w str,
-        overrides: &'w str,
-    },
-    Pack {
-        text: &'w str,
-        out: &'w str,
-    },
-    Unpack {
-        settings: &'w str,
-    },
-    Help,
-}
-
-// The words after the program's own name.
-pub(crate) fn read_command(words: &[String]) -> Option<Command<'_>> {
-    let (name, rest) = words.split_first()?;
-    match (name.as_str(), rest) {
-        ("literals", [settings, overrides]) => {
-            let settings = settings.as_str();
-            let overrides = overrides.as_str();
-            Some(Command::Literals {
-                settings,
-                overrides,
-            })
-        }
-        ("pack", [text, out]) => {
-            let text = text.as_str();
-            let out = out.as_str();
-            Some(Command::Pack { text, out })
-        }
-        ("unpack", [settings]) => Some(Command::Unpack {
-            settings: settings.as_str(),
-        }),
-        ("help", []) => Some(Command::Help),
-        _ => None,
-    }
-}

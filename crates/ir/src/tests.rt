@@ -105,7 +105,7 @@ const LARGEST: [u64; 12] = [
     0xffff_ffff_ffff_ffff,
 ];
 
-// Whether no literal has this type and these bits.
+// Whether no literal has this type and these bits. They are a table's raw words: any number may stand there.
 pub fn is_malformed(type_number: u32, low: u32, high: u32) -> bool
     ensures { result ≡ malformed type_number low high }
 {

@@ -79,7 +79,7 @@ const TO_RESULT: Slots = Slots {
     slots: &[N, R],
 };
 
-// The operands of a kind of expression, if there is such a kind.
+// The operands of a kind of expression, as it stands in an entry, if there is such a kind.
 pub fn expression_slots(kind: u8) -> Option<Slots>
     ensures { option_map row_of result ≡ slice_get expressions kind }
 {
@@ -87,7 +87,7 @@ pub fn expression_slots(kind: u8) -> Option<Slots>
     Some(expression.slots())
 }
 
-// The operands of a kind of record and the blocks after it, if there is such a kind.
+// The operands of a kind of record, as it stands in an entry, and the blocks after it, if there is such a kind.
 pub fn record_kind(kind: u8) -> Option<RecordKind>
     ensures { option_map record_of result ≡ slice_get records kind }
 {

@@ -102,6 +102,7 @@ fn unquoted(heap: Global, text: &[u8]) -> Result<Vec<u8>, Fault>
 {
     let mut key = Vec::new(heap);
     let mut rest = text;
+    // No chain: each step takes as many bytes as it reads, or fails.
     while !rest.is_empty() {
         let (byte, after) = first_byte(rest).ok_or(Fault::BadQuotes)?;
         key.push(byte)?;

@@ -1,5 +1,5 @@
 -- The numbers of the refusals, and the values that come with them.
-use Rattle.std.specs.Prelude.{◌≡◌, ℕ, ◌<◌, ◌⊎◌, List, [], ◌∷◌, Ok, Err, Result}
+use Rattle.std.specs.Prelude.{◌≡◌, ℕ, ◌<◌, ◌⊎◌, List, [], ◌∷◌, codes, Ok, Err, Result}
 use Rattle.places.specs.declared.Place.{Place}
 use Rattle.places.specs.First.{number_of, At}
 use Rattle.refusals.specs.declared.Axis.{Axis}
@@ -22,6 +22,16 @@ axis_number Z = 2
 abbrev pub output_number : MeshOutput → ℕ
 output_number Vertices = 0
 output_number Primitives = 1
+
+-- and how they are called
+abbrev pub axis_word : Axis → List ℕ
+axis_word X = codes "x"
+axis_word Y = codes "y"
+axis_word Z = codes "z"
+
+abbrev pub output_word : MeshOutput → List ℕ
+output_word Vertices = codes "vertices"
+output_word Primitives = codes "primitives"
 
 abbrev pub code_of : Refusal → ℕ × List ℕ
 code_of MalformedSettings = (1, [])

@@ -31,7 +31,7 @@ pub enum MeshOutput {
 // The reasons in the order of their numbers, from 1. Names that naga has are naga's. A key is known by its index in the settings
 // file, an override by its number, an expression by its handle before settling or specialising. In words, the key, record,
 // expression or table comes first, as in the values of the refusal.
-#[derive(Clone, Copy, PartialEq, Debug, Error)]
+#[derive(Clone, Copy, PartialEq, Eq, Debug, Error)]
 pub enum Refusal {
     #[error("the settings file is short, long or over its limit")]
     MalformedSettings,
@@ -106,7 +106,7 @@ pub enum Refusal {
 }
 
 impl Refusal {
-    // Its number.
+    // Its number. An arm each: `as` takes no enum whose variants hold something.
     pub fn code(&self) -> u8
         ensures { result ≡ (code_of self.now).0 }
     {

@@ -1,4 +1,7 @@
 // Tables, axes, outputs and faults in words.
+ghost use Rattle.std.specs.Prelude.{Some};
+ghost use Rattle.refusals.specs.Codes.{axis_word, output_word};
+
 use crate::{Axis, MeshOutput};
 use places::TableName;
 use std::fmt;
@@ -52,6 +55,8 @@ pub(crate) fn range_words(table: TableName) -> &'static str {
 }
 
 impl fmt::Display for Axis {
+    ghost output = { λ a. Some (axis_word a) };
+
     fn fmt<W: fmt::Write>(&self, f: &mut fmt::Formatter<W>) -> fmt::Result {
         f.write_str(match self {
             Axis::X => "x",
@@ -62,6 +67,8 @@ impl fmt::Display for Axis {
 }
 
 impl fmt::Display for MeshOutput {
+    ghost output = { λ o. Some (output_word o) };
+
     fn fmt<W: fmt::Write>(&self, f: &mut fmt::Formatter<W>) -> fmt::Result {
         f.write_str(match self {
             MeshOutput::Vertices => "vertices",

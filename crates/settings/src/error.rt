@@ -13,7 +13,7 @@ pub enum SettingsError {
 }
 
 impl SettingsError {
-    // The refusal's number.
+    // The refusal's number. An arm each: `as` takes no enum whose variants hold something.
     pub fn code(&self) -> u8
         ensures { result ≡ (code_of self.now).0 }
     {

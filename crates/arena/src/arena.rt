@@ -43,7 +43,8 @@ impl Arena {
         Ok(Arena { entries, operands })
     }
 
-    // One node more, for the next handle. Where a table has no room, the first such table, and nothing is written.
+    // One node more, for the next handle. Where a table has no room, the first such table, and nothing is written. The kind is a
+    // byte, as an entry's is.
     pub fn append(
         &mut self,
         kind: u8,

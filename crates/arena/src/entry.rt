@@ -1,6 +1,7 @@
 // What stands in a table of expressions or of records: an entry, and where its operands lie.
 
-// The number of an entry, from 0 in the order of its table.
+// The number of an entry, from 0 in the order of its table. Entries refer to one another by it, as in naga's arenas: tables come
+// and go as numbers, damaged ones too.
 pub type Handle = u32;
 
 // The handle that stands for no handle: a number, since an operand list is raw words.

@@ -5,7 +5,7 @@ ghost use Rattle.std.specs.List.{slice_get};
 use crate::entry::Handle;
 use thiserror::Error;
 
-// A value for each of the handles 0, 1, .. so far, in a slice that the caller lends. It takes a value only for its next handle, so
+// A value for each of the handles 0, 1, .. so far, in a slice that the caller lends, so that no memory is wanted here. It takes a value only for its next handle, so
 // that no handle is left out and none is given a second value.
 #[derive(Drop)]
 pub struct HandleVec<'a, U> {

@@ -107,7 +107,7 @@ impl<T: Copy> Table<T> {
         }
     }
 
-    // Another item in the place of the one at `at`; whether one was there.
+    // Another item in the place of the one at `at`; whether one was there, as a set's `insert` answers: there is no value to give.
     pub fn put(&mut self, at: usize, item: T) -> bool
         ensures cases { Written at item self.old self.new result }
         ensures stays { Stays self.old self.new }

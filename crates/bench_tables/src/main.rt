@@ -6,6 +6,7 @@ use arena::{ABSENT, Entry, Handle, Run, Span};
 use ir::{Body, Record, Size, Sizes, Source, check_body, check_source};
 use kinds::{Expression, Statement};
 use refusals::Refusal;
+use rounding::Literal;
 use std::alloc::{AllocError, Global};
 use std::iter;
 use std::time::{Duration, Instant};
@@ -25,9 +26,9 @@ fn entry(kind: u8, words: [u32; 4], at: u32, len: u32) -> Entry {
     }
 }
 
-// The number 1 as an i32.
 fn one() -> Entry {
-    entry(Expression::Literal as u8, [3, 1, 0, 0], 0, 0)
+    let [type_number, low, high] = Literal::I32(1).words();
+    entry(Expression::Literal as u8, [type_number, low, high, 0], 0, 0)
 }
 
 // An expression over a run of operands.
@@ -40,32 +41,31 @@ fn record(kind: Statement, at: u32, len: u32) -> Record {
     entry(kind as u8, [0; 4], at, len)
 }
 
-// How the operands of the expressions lie.
-#[derive(Clone, Copy)]
-enum Layout {
-    // Four to each, one after the other.
-    Tiled,
-    // Each has all of them.
-    Overlapping,
-    // The first half have one each, the others all from theirs on.
-    Fanned,
+// Four operands to each expression, one after the other.
+fn tiled(i: u32) -> Entry {
+    over(Expression::Math, i.saturating_sub(1).saturating_mul(4), 4)
 }
 
-fn laid_out(layout: Layout, i: u32) -> Entry {
-    match layout {
-        Layout::Tiled => over(Expression::Math, i.saturating_sub(1).saturating_mul(4), 4),
-        Layout::Overlapping => over(Expression::Compose, 0, OPERANDS),
-        Layout::Fanned => if i < HALF {
-            over(Expression::Splat, i, 1)
-        } else {
-            over(Expression::Compose, i.saturating_sub(HALF), HALF)
-        },
+// All operands to each.
+fn overlapping(_i: u32) -> Entry {
+    over(Expression::Compose, 0, OPERANDS)
+}
+
+// One operand to each of the first half, and to the others all from theirs on.
+fn fanned(i: u32) -> Entry {
+    if i < HALF {
+        over(Expression::Splat, i, 1)
+    } else {
+        over(Expression::Compose, i.saturating_sub(HALF), HALF)
     }
 }
 
-fn entries(heap: Global, layout: Layout) -> Result<Vec<Entry>, AllocError> {
+// A literal, and the expressions that are laid out so.
+fn entries<F: Fn(u32) -> Entry>(heap: Global, laid_out: F) -> Result<Vec<Entry>, AllocError>
+    requires { F.IsAlwaysCallable laid_out }
+{
     iter::once(one())
-        .chain((1..ENTRIES).map(|i| laid_out(layout, i)))
+        .chain((1..ENTRIES).map(|i| laid_out(i)))
         .collect(heap)
 }
 
@@ -73,9 +73,9 @@ fn operands(heap: Global) -> Result<Vec<Handle>, AllocError> {
     vec![in heap; 0; OPERANDS as usize]
 }
 
-fn source(heap: Global, layout: Layout) -> Result<Source, AllocError> {
+fn source(heap: Global, entries: Vec<Entry>) -> Result<Source, AllocError> {
     Ok(Source {
-        entries: entries(heap, layout)?,
+        entries,
         operands: operands(heap)?,
         constants: Vec::new(heap),
         overrides: Vec::new(heap),
@@ -92,9 +92,9 @@ fn records(heap: Global) -> Result<Vec<Record>, AllocError> {
         .collect(heap)
 }
 
-fn body(heap: Global, layout: Layout) -> Result<Body, AllocError> {
+fn body(heap: Global, entries: Vec<Entry>) -> Result<Body, AllocError> {
     Ok(Body {
-        entries: entries(heap, layout)?,
+        entries,
         operands: operands(heap)?,
         records: records(heap)?,
         record_operands: operands(heap)?,
@@ -130,10 +130,13 @@ fn print(
     Ok(())
 }
 
-fn time(rt: &HostRuntime, name: &str, layout: Layout) -> anyhow::Result<()> {
+// Times the checks of a module and of a body whose expressions are laid out so.
+fn time<F: Fn(u32) -> Entry + Copy>(rt: &HostRuntime, name: &str, laid_out: F) -> anyhow::Result<()>
+    requires { F.IsAlwaysCallable laid_out }
+{
     let heap = rt.alloc();
-    let source = source(heap, layout)?;
-    let body = body(heap, layout)?;
+    let source = source(heap, entries(heap, laid_out)?)?;
+    let body = body(heap, entries(heap, laid_out)?)?;
     let start = Instant::now(rt)?;
     let answer = check_source(&source, &sizes());
     print(rt, name, "module", answer, start.elapsed(rt)?)?;
@@ -143,7 +146,7 @@ fn time(rt: &HostRuntime, name: &str, layout: Layout) -> anyhow::Result<()> {
 }
 
 fn main(rt: HostRuntime) -> anyhow::Result<()> {
-    time(&rt, "tiled", Layout::Tiled)?;
-    time(&rt, "overlapping", Layout::Overlapping)?;
-    time(&rt, "fanned", Layout::Fanned)
+    time(&rt, "tiled", tiled)?;
+    time(&rt, "overlapping", overlapping)?;
+    time(&rt, "fanned", fanned)
 }

@@ -129,7 +129,7 @@ pub fn check_blocks(records: &[Entry]) -> Option<usize>
     ensures { (os : List ℕ) → Blocked (nodes records.now os) result }
 {
     let mut nest = Nest::new();
-    // No `position`: each record changes the nest.
+    // No `position`: with a closure that changes the nest its exits are not proved.
     for (i, record) in records.iter().enumerate() {
         if nest.take(role_of(record)).is_none() {
             return Some(i);

@@ -27,7 +27,8 @@ pub enum Sort {
     Records,
 }
 
-// What is asked of the operands at the front of a run.
+// What is asked of the operands at the front of a run: an enum, since the three demands are all that there are and the proofs go by
+// them.
 #[derive(Clone, Copy)]
 pub enum Demand {
     // Those that stand before the slots of their kind are not absent.
@@ -38,7 +39,7 @@ pub enum Demand {
     Below(usize),
 }
 
-// The row of a kind in its table.
+// The row of a kind, a byte as it stands in an entry, in its table.
 pub fn slots_of(sort: Sort, kind: u8) -> Option<Slots>
     ensures { option_map row_of result ≡ slots_of sort kind }
 {
@@ -55,6 +56,7 @@ pub fn out_of_range(optional: bool, bound: usize, handle: Handle) -> bool
     !(optional && handle == ABSENT) && handle as usize >= bound
 }
 
+// The tables are parameters, as in the public functions below: a struct with the memory of a walk would move a megabyte.
 impl Demand {
     // How many of an entry's operands it is made of, from the first.
     fn asked(self, e: &Entry) -> u32
@@ -126,7 +128,7 @@ impl Demand {
         ensures { Least (Front self entries.now operands.now) result }
     {
         let mut found = None;
-        // No chain: each entry changes what is in reach of the next.
+        // No chain: each entry changes what is in reach of the next, which only a loop's invariant follows.
         for (i, e) in entries.iter().enumerate() {
             let to = self.end_of(e, operands.len());
             let here = self.look(i, e.run.at, to, operands, reach);

@@ -110,7 +110,7 @@ pub fn limited<T, Q: Test<T>>(limit: usize, items: &[T], test: &Q) -> Option<usi
     first_bad(up_to(limit, items), test).or(over(limit, items.len()))
 }
 
-// A module's or a body's faults of one sort, by table.
+// A module's or a body's faults of one sort, by table: a trait, as `Test` is.
 pub trait Faults {
     ghost at: { Self → ℕ → ℕ → Type 0 };
 

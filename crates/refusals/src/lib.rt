@@ -28,7 +28,8 @@ pub enum MeshOutput {
     Primitives,
 }
 
-// The reasons in the order of their numbers, from 1. Names that naga has are naga's. A key is known by its index in the settings
+// The reasons in the order of their numbers, from 1: one list, with those of settings files and of conversions in it, since which
+// comes first is one rule. Names that naga has are naga's. A key is known by its index in the settings
 // file, an override by its number, an expression by its handle before settling or specialising. In words, the key, record,
 // expression or table comes first, as in the values of the refusal.
 #[derive(Clone, Copy, PartialEq, Eq, Debug, Error)]

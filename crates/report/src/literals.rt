@@ -38,16 +38,19 @@ impl<'s> Writer<'s> {
     }
 
     // The key and the value at `i`, as a report names them.
-    fn put_setting(&mut self, i: usize, value: f64) -> Result<(), TextError> {
+    fn put_setting(&mut self, i: usize, key: &[u8], value: f64) -> Result<(), TextError> {
+        let key = key_text(self.heap, key)?;
         let value = ValueText(value);
-        match self.settings.key(i) {
-            Some(key) => {
-                let key = key_text(self.heap, key)?;
-                write!(self.text, "key {i} `{key}` = {value}")?;
-            }
-            None => write!(self.text, "key {i} = {value}")?,
-        }
+        write!(self.text, "key {i} `{key}` = {value}")?;
         Ok(())
+    }
+
+    // The setting whose key an override takes.
+    fn put_taken(&mut self, i: usize, value: f64) -> Result<(), TextError> {
+        match self.settings.key(i) {
+            Some(key) => self.put_setting(i, key, value),
+            None => Ok(write!(self.text, "key {i} = {}", ValueText(value))?),
+        }
     }
 
     fn put_outcome(&mut self, outcome: &Outcome) -> Result<(), TextError> {
@@ -57,7 +60,7 @@ impl<'s> Writer<'s> {
                 value,
                 literal,
             } => {
-                self.put_setting(key, value)?;
+                self.put_taken(key, value)?;
                 let literal = LiteralText(literal);
                 writeln!(self.text, ", literal {literal}")?;
             }
@@ -69,7 +72,7 @@ impl<'s> Writer<'s> {
     fn put_refusal(&mut self, error: &Unresolved) -> Result<(), TextError> {
         match *error {
             Unresolved::Refused { key, value, .. } => {
-                self.put_setting(key, value)?;
+                self.put_taken(key, value)?;
                 self.text.push_str(", ")?;
             }
             Unresolved::MissingValue => self.text.push_str("no value and no init, ")?,
@@ -95,7 +98,7 @@ impl<'s> Writer<'s> {
     fn put_untaken(&mut self, who: &[Identifier<'_>]) -> Result<(), TextError> {
         for (i, Setting { key, value }) in (0..).zip(self.settings.iter()) {
             if !is_taken(key, who) {
-                self.put_setting(i, value)?;
+                self.put_setting(i, key, value)?;
                 let code = SettingsError::NotFound { key: i }.code();
                 writeln!(self.text, ", refusal {code}, no override takes it")?;
                 self.tally.count_untaken();

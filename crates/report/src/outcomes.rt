@@ -39,7 +39,7 @@ pub enum Unresolved {
 }
 
 impl Unresolved {
-    // The refusal's number.
+    // The refusal's number. An arm each: `as` takes no enum whose variants hold something.
     pub fn code(&self) -> u8
         ensures { result ≡ refusal_code self.now }
     {
@@ -76,6 +76,7 @@ pub fn resolve(
         let kept = init.map(|init| Outcome::Kept { init });
         return kept.ok_or(Unresolved::MissingValue);
     };
+    // No `map` and `map_err`: with the two closures it is not proved what becomes of the value.
     match map_value_to_literal(value, scalar) {
         Ok(literal) => Ok(Outcome::Made {
             key,

@@ -1,3 +1,4 @@
+use crate::errors::ReportError;
 use crate::literals::report_literals;
 use crate::packing::{pack, unpack};
 use crate::shown::half_value;
@@ -13,18 +14,10 @@ fn reported(heap: Global, settings: &str, overrides: &str) -> Result<String, Fai
     Ok(report.text.clone()?)
 }
 
-// What is said where a text of settings is not packed.
-fn unpacked_error(heap: Global, settings: &str) -> Result<String, Fail> {
-    match pack(heap, settings) {
-        Ok(_) => Err(Fail::new("packed")),
-        Err(error) => Ok(format!(in heap; "{error}")?),
-    }
-}
-
-// What is said where there is no report.
-fn report_error(heap: Global, file: &[u8], overrides: &str) -> Result<String, Fail> {
-    match report_literals(heap, file, overrides) {
-        Ok(_) => Err(Fail::new("reported")),
+// What is said where nothing was made.
+fn error_of<T: Drop>(heap: Global, made: Result<T, ReportError>) -> Result<String, Fail> {
+    match made {
+        Ok(_) => Err(Fail::new("made")),
         Err(error) => Ok(format!(in heap; "{error}")?),
     }
 }
@@ -69,13 +62,16 @@ key 2 `07` = 3, refusal 6, no override takes it
 fn files_are_refused(rt: HostRuntime) -> Result<(), Fail> {
     let heap = rt.alloc();
     let malformed = SettingsError::Malformed;
-    let said = report_error(heap, b"\x01\x00", "")?;
+    let said = error_of(heap, report_literals(heap, b"\x01\x00", ""))?;
     assert_eq!(rt;
         said.as_str(),
         format!(in heap; "refusal 1, {malformed}")?.as_str()
     );
     let repeated = SettingsError::RepeatedKey { key: 1 };
-    let said = report_error(heap, b"\x02\x00\x01\x01aa0000000011111111", "")?;
+    let said = error_of(
+        heap,
+        report_literals(heap, b"\x02\x00\x01\x01aa0000000011111111", ""),
+    )?;
     assert_eq!(rt;
         said.as_str(),
         format!(in heap; "refusal 2, {repeated}")?.as_str()
@@ -113,7 +109,7 @@ fn lines_of_overrides_are_refused(rt: HostRuntime) -> Result<(), Fail> {
         ),
     ];
     for (text, expected) in cases {
-        let said = report_error(heap, b"\x00\x00", text)?;
+        let said = error_of(heap, report_literals(heap, b"\x00\x00", text))?;
         assert_eq!(rt; said.as_str(), expected);
     }
     Ok(())
@@ -135,11 +131,11 @@ fn lines_of_settings_are_refused(rt: HostRuntime) -> Result<(), Fail> {
         ("a = 1.2.3", "line 1: the value is not a number"),
     ];
     for (text, expected) in cases {
-        let said = unpacked_error(heap, text)?;
+        let said = error_of(heap, pack(heap, text))?;
         assert_eq!(rt; said.as_str(), expected);
     }
     let repeated = WriteError::RepeatedKey { key: 1 };
-    let said = unpacked_error(heap, "# two lines\n\na = 1\n\"a\" = 2\n")?;
+    let said = error_of(heap, pack(heap, "# two lines\n\na = 1\n\"a\" = 2\n"))?;
     assert_eq!(rt;
         said.as_str(),
         format!(in heap; "line 4: {repeated}")?.as_str()

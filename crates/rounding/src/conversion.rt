@@ -33,7 +33,7 @@ impl ConversionError {
     }
 }
 
-// By hand, since callers' clauses may speak of what is written.
+// By hand, since `output` states the text.
 impl fmt::Display for ConversionError {
     ghost output = { λ e. Some (told_as e) };
 

@@ -9,11 +9,6 @@ use Rattle.rounding.specs.declared.scalars.ScalarKind.{ScalarKind}
 use Rattle.rounding.specs.declared.scalars.ScalarKind.TheVariants.{Sint, Uint, Float, Bool}
 use Rattle.listing.specs.Names.{kind_word, short_name, kind_name}
 
--- what is read after the name of a kind
-pub widths : (word kind digits : List ℕ) (r : Option ℕ) → word ≡ kind ++ digits → MatchOption r ((n : ℕ) → n < 256 → digits ≡ decimal n → ⊥) (λ n. digits ≡ decimal n) → MatchOption r ((w : ℕ) → w < 256 → word ≡ kind ++ decimal w → ⊥) (λ w. word ≡ kind ++ decimal w)
-widths word kind digits None e h = λ w small is. h w small (append_cancel_left kind digits (decimal w) (sym e ∙ is))
-widths word kind digits (Some n) e h = e ∙ ap (λ l. kind ++ l) h
-
 -- a width is read in one way
 pub one_width : (word kind : List ℕ) (v w : ℕ) → v < 256 → w < 256 → word ≡ kind ++ decimal v → word ≡ kind ++ decimal w → w ≡ v
 one_width word kind v w v_small w_small e is = decimal_injective w v (omega (arith, w_small)) (omega (arith, v_small)) (append_cancel_left kind (decimal w) (decimal v) (sym is ∙ e))

@@ -3,9 +3,6 @@ use Rattle.listing.specs.Names.{kind_word, short_name}
 use Rattle.listing.proofs.Named.{one_width, none_named, not_named}
 use Rattle.listing.proofs.scalars.read_kind.Goals as goal
 
-pub returns-in_err-width : goal.returns-in_err-width
-returns-in_err-width c = search (rules, not_named)
-
 pub returns-then-is_some : goal.returns-then-is_some
 returns-then-is_some c =
     let k = c.args.kind in

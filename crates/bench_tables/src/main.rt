@@ -2,7 +2,7 @@
 // output, the times to standard error.
 #![tactic(auto)]
 
-use arena::{ABSENT, Entry, Handle, Run, Span};
+use arena::{Entry, Handle, Run, Span};
 use ir::{Body, Record, Size, Sizes, Source, check_body, check_source};
 use kinds::{Expression, Statement};
 use refusals::Refusal;
@@ -106,7 +106,7 @@ fn body(heap: Global, entries: Vec<Entry>) -> Result<Body, AllocError> {
 fn sizes() -> Sizes {
     let size = Size {
         value: 1,
-        handle: ABSENT,
+        handle: None,
     };
     Sizes {
         workgroup: [size; 3],

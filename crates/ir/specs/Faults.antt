@@ -66,6 +66,11 @@ misnamed constants overrides global i e =
     (cond (e.kind == constant) (cond (nat_lt (word e 0) (length constants)) (global && init_not_below constants i (word e 0)) true)
     (cond (e.kind == overriding) (nat_le overrides (word e 0)) false))
 
+-- there is a handle, and it is not below n
+abbrev pub past : ℕ → Option ℕ → Bool
+past n None = false
+past n (Some h) = nat_le n h
+
 -- an Emit that is not empty ends past n entries
 abbrev pub emits_past : ℕ → Entry → Bool
 emits_past n e = e.kind == emit && (nat_lt (word e 0) (word e 1) && nat_lt n (word e 1))

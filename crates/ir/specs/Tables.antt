@@ -1,11 +1,10 @@
 -- The tables of a module and of a body, and which of their places are at fault. Tables go by their numbers: 0 global entries, 1 their
 -- operands, 2 constants, 3 overrides, 4 variable inits, 5 body entries, 6 their operands, 7 records, 8 their operands, 9 local inits,
 -- 10 named expressions, 11 sizes.
-use Rattle.std.specs.Prelude.{◌≡◌, ℕ, Bool, true, false, ◌⊎◌, List, [], ◌∷◌, length, vec_items, MatchBool, ◌==◌, slice_index_or}
+use Rattle.std.specs.Prelude.{◌≡◌, ℕ, Bool, true, false, ◌⊎◌, List, [], ◌∷◌, length, vec_items, MatchBool, Option, Some, None, ◌==◌, slice_index_or}
 use Rattle.places.specs.First.{Holds, Over}
 use Rattle.operands.specs.declared.Sort.{Sort}
 use Rattle.operands.specs.declared.Sort.TheVariants.{Expressions, Records}
-use Rattle.operands.specs.Faults.{out_of_range_of}
 use Rattle.operands.specs.Operands.{Lacking, NotBelow, Beyond}
 use Rattle.arena.specs.declared.entry.Entry.{Entry}
 use Rattle.ir.specs.declared.tables.Constant.{Constant}
@@ -14,7 +13,7 @@ use Rattle.ir.specs.declared.tables.Size.{Size}
 use Rattle.ir.specs.declared.tables.Sizes.{Sizes}
 use Rattle.ir.specs.declared.tables.Source.{Source}
 use Rattle.ir.specs.declared.tables.Body.{Body}
-use Rattle.ir.specs.Faults.{misshapen, name_outside, misnamed, emits_past, nameless}
+use Rattle.ir.specs.Faults.{misshapen, name_outside, misnamed, past, emits_past, nameless}
 
 -- what a module's tables hold
 pub record Global : Type 0 where
@@ -23,11 +22,11 @@ pub record Global : Type 0 where
   pub constants : List Constant
   pub overrides : List Override
   pub names : List ℕ
-  pub variables : List ℕ
+  pub variables : List (Option ℕ)
   pub sizes : List Size
 
 abbrev pub no_size : Size
-no_size = record { value = 0; handle = 0 }
+no_size = record { value = 0; handle = None }
 
 -- the five sizes in the order of their places: workgroup x, y and z, mesh vertices, mesh primitives
 abbrev pub sizes_of : Sizes → List Size
@@ -52,7 +51,7 @@ pub record Local : Type 0 where
   pub operands : List ℕ
   pub records : List Entry
   pub record_operands : List ℕ
-  pub locals : List ℕ
+  pub locals : List (Option ℕ)
   pub named : List ℕ
   pub constants : List Constant
   pub overrides : ℕ
@@ -104,9 +103,9 @@ local_shape b t k =
 abbrev pub Misnamed : Bool → List Constant → ℕ → List Entry → ℕ → Type 0
 Misnamed is_global constants overrides es = Holds (λ i e. misnamed constants overrides is_global i e ≡ true) es
 
--- the handle of the item at k is not below the bound, unless it is absent and may be
-abbrev pub Outside : {A : Type 0} → Bool → ℕ → (A → ℕ) → List A → ℕ → Type 0
-Outside optional bound handle xs = Holds (λ _ x. out_of_range_of optional bound (handle x) ≡ true) xs
+-- the handle of the item at k, where it has one, is not below the bound
+abbrev pub Outside : {A : Type 0} → ℕ → (A → Option ℕ) → List A → ℕ → Type 0
+Outside bound handle xs = Holds (λ _ x. past bound (handle x) ≡ true) xs
 
 -- the record at k is an Emit that is not empty and ends past the entries
 abbrev pub EmitsPast : ℕ → List Entry → ℕ → Type 0
@@ -116,10 +115,10 @@ abbrev pub global_range : Global → ℕ → ℕ → Type 0
 global_range m t k =
     MatchBool (t == 0) (Misnamed true m.constants (length m.overrides) m.entries k)
     (MatchBool (t == 1) (NotBelow m.entries m.operands k)
-    (MatchBool (t == 2) (Outside false (length m.entries) (λ c. c.init) m.constants k)
-    (MatchBool (t == 3) (Outside true (length m.entries) (λ o. o.init) m.overrides k)
-    (MatchBool (t == 4) (Outside true (length m.entries) (λ h. h) m.variables k)
-    (MatchBool (t == 11) (Outside true (length m.entries) (λ s. s.handle) m.sizes k) ⊥)))))
+    (MatchBool (t == 2) (Outside (length m.entries) (λ c. Some c.init) m.constants k)
+    (MatchBool (t == 3) (Outside (length m.entries) (λ o. o.init) m.overrides k)
+    (MatchBool (t == 4) (Outside (length m.entries) (λ h. h) m.variables k)
+    (MatchBool (t == 11) (Outside (length m.entries) (λ s. s.handle) m.sizes k) ⊥)))))
 
 abbrev pub local_range : Local → ℕ → ℕ → Type 0
 local_range b t k =
@@ -127,8 +126,8 @@ local_range b t k =
     (MatchBool (t == 6) (NotBelow b.entries b.operands k)
     (MatchBool (t == 7) (EmitsPast (length b.entries) b.records k)
     (MatchBool (t == 8) (Beyond (length b.entries) b.records b.record_operands k)
-    (MatchBool (t == 9) (Outside true (length b.entries) (λ h. h) b.locals k)
-    (MatchBool (t == 10) (Outside false (length b.entries) (λ h. h) b.named k) ⊥)))))
+    (MatchBool (t == 9) (Outside (length b.entries) (λ h. h) b.locals k)
+    (MatchBool (t == 10) (Outside (length b.entries) (λ h. Some h) b.named k) ⊥)))))
 
 -- ---- refusal 7
 

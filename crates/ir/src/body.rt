@@ -63,8 +63,8 @@ impl<'m> Faults for RangeOf<Function<'m>> {
             TableName::BodyOperands => least_not_below(&body.entries, &body.operands),
             TableName::Records => first_emit_past(&body.records, bound),
             TableName::RecordOperands => least_beyond(bound, &body.records, &body.record_operands),
-            TableName::LocalInits => first_outside(&body.locals, true, bound),
-            TableName::NamedHandles => first_outside(&body.named, false, bound),
+            TableName::LocalInits => first_outside(&body.locals, bound),
+            TableName::NamedHandles => first_outside(&body.named, bound),
             _ => None,
         }
     }

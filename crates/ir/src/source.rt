@@ -55,10 +55,10 @@ impl<'m> Faults for RangeOf<Module<'m>> {
         match table {
             TableName::GlobalEntries => first_misnamed(&source.entries, source, true),
             TableName::GlobalOperands => least_not_below(&source.entries, &source.operands),
-            TableName::Constants => first_outside(&source.constants, false, bound),
-            TableName::Overrides => first_outside(&source.overrides, true, bound),
-            TableName::VariableInits => first_outside(&source.variables, true, bound),
-            TableName::Sizes => first_outside(&sizes.all(), true, bound),
+            TableName::Constants => first_outside(&source.constants, bound),
+            TableName::Overrides => first_outside(&source.overrides, bound),
+            TableName::VariableInits => first_outside(&source.variables, bound),
+            TableName::Sizes => first_outside(&sizes.all(), bound),
             _ => None,
         }
     }

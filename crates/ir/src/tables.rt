@@ -19,14 +19,14 @@ pub struct Override {
     pub id: Option<u16>,
     pub name: Option<Run>,
     pub scalar: Scalar,
-    pub init: Handle,
+    pub init: Option<Handle>,
 }
 
-// A size, and the global expression that gives it in settling; where that is absent the size stays.
+// A size, and the global expression that gives it in settling; without one the size stays.
 #[derive(Clone, Copy, PartialEq, Eq, Debug)]
 pub struct Size {
     pub value: u32,
-    pub handle: Handle,
+    pub handle: Option<Handle>,
 }
 
 // The sizes of a workgroup, and the largest output of a mesh.
@@ -45,7 +45,7 @@ pub struct Source {
     pub constants: Vec<Constant>,
     pub overrides: Vec<Override>,
     pub names: Vec<u8>,
-    pub variables: Vec<Handle>,
+    pub variables: Vec<Option<Handle>>,
 }
 
 // A function's body. Local inits may be absent, named expressions may not.
@@ -55,6 +55,6 @@ pub struct Body {
     pub operands: Vec<Handle>,
     pub records: Vec<Record>,
     pub record_operands: Vec<Handle>,
-    pub locals: Vec<Handle>,
+    pub locals: Vec<Option<Handle>>,
     pub named: Vec<Handle>,
 }

@@ -1,5 +1,5 @@
 // What is asked of the items of a table.
-ghost use Rattle.std.specs.Prelude.{◌≡◌, ℕ, true, length};
+ghost use Rattle.std.specs.Prelude.{◌≡◌, ℕ, Option, Some, true, length};
 ghost use Rattle.places.specs.First.{Least};
 ghost use Rattle.ir.specs.Faults.{outside, misshapen, name_outside, misnamed, malformed, emits_past};
 ghost use Rattle.ir.specs.Tables.{Misnamed, Outside, EmitsPast, Nameless};
@@ -7,7 +7,7 @@ ghost use Rattle.ir.specs.Tables.{Misnamed, Outside, EmitsPast, Nameless};
 use crate::tables::{Constant, Override, Record, Size, Source};
 use arena::{Entry, Handle, Run};
 use kinds::{Expression, Statement};
-use operands::{Sort, out_of_range, slots_of};
+use operands::{Sort, slots_of};
 use places::Test;
 
 // Tables where something may have a wrong shape.
@@ -115,34 +115,42 @@ pub fn is_malformed(type_number: u32, low: u32, high: u32) -> bool
         .is_none_or(|largest| bits > *largest)
 }
 
-// Something that has a handle.
+// Something that has a handle, or may have one.
 pub(crate) trait HasHandle {
-    ghost handle_of: { Self → ℕ };
+    ghost handle_of: { Self → Option ℕ };
 
-    fn handle(&self) -> Handle
+    fn handle(&self) -> Option<Handle>
         ensures { result ≡ handle_of self.now };
 }
 
 impl HasHandle for Handle {
+    ghost handle_of = { λ h. Some h };
+
+    fn handle(&self) -> Option<Handle> {
+        Some(*self)
+    }
+}
+
+impl HasHandle for Option<Handle> {
     ghost handle_of = { λ h. h };
 
-    fn handle(&self) -> Handle {
+    fn handle(&self) -> Option<Handle> {
         *self
     }
 }
 
 impl HasHandle for Constant {
-    ghost handle_of = { λ c. c.init };
+    ghost handle_of = { λ c. Some c.init };
 
-    fn handle(&self) -> Handle {
-        self.init
+    fn handle(&self) -> Option<Handle> {
+        Some(self.init)
     }
 }
 
 impl HasHandle for Override {
     ghost handle_of = { λ o. o.init };
 
-    fn handle(&self) -> Handle {
+    fn handle(&self) -> Option<Handle> {
         self.init
     }
 }
@@ -150,22 +158,16 @@ impl HasHandle for Override {
 impl HasHandle for Size {
     ghost handle_of = { λ s. s.handle };
 
-    fn handle(&self) -> Handle {
+    fn handle(&self) -> Option<Handle> {
         self.handle
     }
 }
 
-// The index of the first item whose handle is not below a bound, unless it is absent and may be.
-pub(crate) fn first_outside<T: HasHandle>(
-    items: &[T],
-    optional: bool,
-    bound: usize,
-) -> Option<usize>
-    ensures { Least (Outside optional bound T.handle_of items.now) result }
+// The index of the first item with a handle that is not below a bound.
+pub(crate) fn first_outside<T: HasHandle>(items: &[T], bound: usize) -> Option<usize>
+    ensures { Least (Outside bound T.handle_of items.now) result }
 {
-    items
-        .iter()
-        .position(|item| out_of_range(optional, bound, item.handle()))
+    items.iter().position(|item| item.handle().is_some_and(|handle| handle as usize >= bound))
 }
 
 // Whether a record is an Emit that is not empty and ends past the entries.

@@ -75,7 +75,8 @@ impl Sizes {
 }
 
 // Whether a module's tables are well formed: accepted exactly if no refusal applies to them, and else refused with the first that
-// does, by number and then by place. Nothing past a table's limit is looked at.
+// does, by number and then by place. Nothing past a table's limit is looked at. Apart from `check_body`, since the third check asks and
+// refuses something else.
 pub fn check_source(source: &Source, sizes: &Sizes) -> Result<(), Refusal>
     ensures { CheckedSource (global source.now sizes.now) result }
 {

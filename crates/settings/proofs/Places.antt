@@ -1,12 +1,15 @@
 -- What stands at a place of a list.
-use Rattle.std.proofs.Common.{◌≡◌, ℕ, zero, suc, ◌+◌, ◌<◌, ◌≤◌, Bool, true, false, Decides, List, [], ◌∷◌, length, get_or, take, Some, None, Option, sym, refl, ap, add-zero, zero-add, ◌∙◌, subst, ⊎_elim, inl, inr, arith, MatchOption, MatchBool}
+use Rattle.std.proofs.Common.{◌≡◌, ℕ, zero, suc, ◌+◌, ◌<◌, ◌≤◌, Bool, true, false, Decides, List, [], ◌∷◌, length, get_or, take, Some, None, Option, sym, refl, ap, zero-add, ◌∙◌, subst, ⊎_elim, inl, inr, arith, MatchOption, MatchBool}
+use Rattle.std.proofs.lemmas.Iterator.Consumers.{YieldsList-from_first}
+use Rattle.std.specs.Iterator.{AlwaysYields, YieldsFirstRef}
 use Rattle.std.specs.List.{slice_get, enumerate_from, AllWithin, HoldsAt}
 use Rattle.std.specs.Option.{option_map}
 use Rattle.std.specs.Borrow.{Bor}
+use Rattle.std.proofs.lemmas.List.FromFn.{length-enumerate_from, get_or-enumerate_from}
 use Rattle.std.proofs.lemmas.Bool.{cases_lt, false≢true}
-use Rattle.std.proofs.lemmas.Option.{slice_get-get_or, slice_get_within, slice_get_read, slice_get_cases, none-some, same_Some, get_or_from_slice_get}
+use Rattle.std.proofs.lemmas.Option.{slice_get-get_or, slice_get_within, slice_get_read, slice_get_cases, none-some, get_or_from_slice_get}
 use Rattle.settings.specs.First.{Least, Holds}
-use Rattle.settings.specs.Layout.{Among, Repeats, Distinct}
+use Rattle.settings.specs.Layout.{Among, Distinct}
 use Rattle.settings.specs.Keys.{Taken}
 use Rattle.settings.specs.Reading.{KeyAt}
 use Rattle.settings.specs.declared.naming.Identifier.{Identifier}
@@ -56,28 +59,13 @@ all_taken ks ws h i k e = subst (Taken ws) (get_or_from_slice_get ks i k k e) (h
 
 -- ---- the first repeated key
 
-enumerated : (n : ℕ) (ks : List (List ℕ)) (i : ℕ) → slice_get (enumerate_from n ks) i ≡ option_map (λ k. (n + i, k)) (slice_get ks i)
-enumerated n [] i = refl
-enumerated n (k ∷ ks) zero = ap (λ m. Some (m, k)) (sym (add-zero n))
-enumerated n (k ∷ ks) (suc i) = enumerated (n + 1) ks i ∙ ap (λ m. option_map (λ (x : List ℕ). (m, x)) (slice_get ks i)) (omega arith)
+-- what a turn of a loop over keys, each beside its place, is at
+pub at_turn : (ks : List (List ℕ)) (n i : ℕ) (k : List ℕ) → (n < length (enumerate_from 0 ks)) × ((i, k) ≡ get_or (enumerate_from 0 ks) n (i, k)) → (i ≡ n) × (slice_get ks n ≡ Some k)
+at_turn ks n i k h =
+    let l : n < length ks = omega (arith, h.0, length-enumerate_from 0 ks) in
+    let e : (i, k) ≡ (0 + n, get_or ks n k) = h.1 ∙ get_or-enumerate_from 0 ks n (i, k) l in
+    (ap (λ p. p.0) e ∙ zero-add n, slice_get_read ks (length ks) n k refl l (ap (λ p. p.1) e))
 
--- beside its place, a key that is equal to an earlier one
-abbrev pub Earlier : List (List ℕ) → ℕ × List ℕ → Type 0
-Earlier ks p = Among p.1 (take p.0 ks)
-
-repeats_at : (ks : List (List ℕ)) (i : ℕ) → (Holds (Earlier ks) (enumerate_from 0 ks) i → Repeats ks i) × (Repeats ks i → Holds (Earlier ks) (enumerate_from 0 ks) i)
-repeats_at ks i = (
-  λ t. elim (slice_get_cases ks i).1 [
-    | inl s ↦ let e : t.0 ≡ (0 + i, s.0) = same_Some _ _ (sym t.1 ∙ enumerated 0 ks i ∙ ap (option_map (λ (k : List ℕ). (0 + i, k))) s.2) in
-        let f : t.0 ≡ (i, s.0) = e ∙ ap (λ (m : ℕ). (m, s.0)) (zero-add i) in (s.0, s.2, subst (Earlier ks) f t.2)
-    | inr m ↦ absurd (none-some t.0 (sym (ap (option_map (λ (k : List ℕ). (0 + i, k))) m.1) ∙ sym (enumerated 0 ks i) ∙ t.1))
-  ],
-  λ t. ((i, t.0), enumerated 0 ks i ∙ ap (option_map (λ (k : List ℕ). (0 + i, k))) t.1 ∙ ap (λ (m : ℕ). Some (m, t.0)) (zero-add i), t.2),
-)
-
-least_like : {P Q : ℕ → Type 0} → ((i : ℕ) → (P i → Q i) × (Q i → P i)) → (r : Option ℕ) → Least P r → Least Q r
-least_like e None h = λ k q. h k ((e k).1 q)
-least_like e (Some i) h = ((e i).0 h.0, λ k l q. h.1 k l ((e k).1 q))
-
-pub least_repeated : (ks : List (List ℕ)) (r : Option ℕ) → Found (Earlier ks) (λ p. Earlier ks p → ⊥) (enumerate_from 0 ks) r → Least (Repeats ks) r
-least_repeated ks r h = least_like (repeats_at ks) r (least_found (Earlier ks) (λ p. Earlier ks p → ⊥) (enumerate_from 0 ks) r (λ x no yes. no yes) h)
+-- a walk that shows what is left gives that
+pub walked : {S : Type 0} (left : S → List (List ℕ)) (s : S) → AlwaysYields (YieldsFirstRef left) (λ k. k.now) s (left s)
+walked left s = (YieldsList-from_first (λ k. k.now) left (left s) refl).runs

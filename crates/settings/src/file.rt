@@ -8,10 +8,11 @@ ghost use Rattle.settings.specs.Reading.{given, CutInto, Read, KeyAt, Only, valu
 use crate::MOST_SETTINGS;
 use crate::error::SettingsError;
 use crate::iter::{Iter, double_of};
-use crate::keys::Keys;
+use crate::keys::{Keys, first_repeated};
 use crate::naming::{Identifier, is_taken, takes};
 
 // A settings file that was read, as parts of its bytes.
+// No model: it is `Copy`, and lists of settings do not give its parts back.
 #[derive(Clone, Copy)]
 pub struct Settings<'f> {
     keys: Keys<'f>,
@@ -24,7 +25,7 @@ impl<'f> Settings<'f> {
         ensures { Read file.now result }
     {
         let settings = Settings::cut(file).ok_or(SettingsError::Malformed)?;
-        match settings.first_repeated() {
+        match first_repeated(settings.keys) {
             Some(key) => Err(SettingsError::RepeatedKey { key }),
             None => Ok(settings),
         }
@@ -49,15 +50,6 @@ impl<'f> Settings<'f> {
             keys: Keys { lengths, bytes },
             values,
         })
-    }
-
-    // The first key that is equal to an earlier one.
-    fn first_repeated(&self) -> Option<usize>
-        ensures { Least (Repeats (given self.now).keys) result }
-    {
-        let keys = self.keys();
-        keys.enumerate()
-            .position(|(i, key)| keys.has_within(i, key))
     }
 
     // The number of keys.
@@ -99,6 +91,7 @@ impl<'f> Settings<'f> {
     }
 
     // The key that an override takes.
+    // From the front: a map would need memory, and this call cannot fail.
     pub fn find(&self, who: Identifier<'_>) -> Option<usize>
         ensures first { Least (Holds (Takes who.entry) (given self.now).keys) result }
         ensures only { Distinct (given self.now).keys → Only (Holds (Takes who.entry) (given self.now).keys) result }

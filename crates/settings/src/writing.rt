@@ -5,6 +5,7 @@ ghost use Rattle.settings.specs.First.{Least};
 ghost use Rattle.settings.specs.Layout.{Among, Repeats, Distinct, Encodes, bytes_of, encode};
 ghost use Rattle.settings.specs.Written.{keys_of, value_bits_of, given_by, TooLong, Refused, Restored, ValuesBack, ReadsBack, write_words};
 
+use crate::keys::{KeysOf, first_repeated};
 use crate::{LONGEST_KEY, MOST_SETTINGS};
 use std::alloc::{AllocError, Global};
 use std::error::Error;
@@ -60,7 +61,7 @@ pub fn write(heap: Global, settings: &[Setting<'_>]) -> Result<Vec<u8>, WriteErr
     if let Some(key) = first_too_long(settings) {
         return Err(WriteError::KeyTooLong { key });
     }
-    if let Some(key) = first_repeated(settings) {
+    if let Some(key) = first_repeated(KeysOf { settings }) {
         return Err(WriteError::RepeatedKey { key });
     }
     encoded(heap, settings).map_err(|_| WriteError::OutOfMemory)
@@ -74,29 +75,6 @@ fn first_too_long(settings: &[Setting<'_>]) -> Option<usize>
         .iter()
         .map(|setting| setting.key)
         .position(|key| key.len() > LONGEST_KEY)
-}
-
-// The first of the keys that is equal to an earlier one.
-// Beside that of a file's keys: one function over both would need a slice's iterator to be copied.
-fn first_repeated(settings: &[Setting<'_>]) -> Option<usize>
-    ensures { Least (Repeats (keys_of settings.now)) result }
-{
-    settings
-        .iter()
-        .map(|setting| setting.key)
-        .enumerate()
-        .position(|(i, key)| has_within(settings, i, key))
-}
-
-// Whether bytes are the key of one of the first `n` settings.
-fn has_within(settings: &[Setting<'_>], n: usize, bytes: &[u8]) -> bool
-    ensures { Decides result (Among bytes.now (take n (keys_of settings.now))) }
-{
-    settings
-        .iter()
-        .map(|setting| setting.key)
-        .take(n)
-        .any(|key| key == bytes)
 }
 
 fn encoded(heap: Global, settings: &[Setting<'_>]) -> Result<Vec<u8>, AllocError>

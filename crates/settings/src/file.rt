@@ -1,6 +1,6 @@
 ghost use Rattle.std.specs.Prelude.{◌≡◌, ℕ, ◌*◌, ◌≤◌, List, length, Some, sum, Option};
 ghost use Rattle.settings.specs.First.{Least, Holds};
-ghost use Rattle.settings.specs.Layout.{Distinct, Repeats};
+ghost use Rattle.settings.specs.Layout.{Distinct};
 ghost use Rattle.settings.specs.Keys.{Takes};
 ghost use Rattle.settings.specs.Walks.{keys_left, settings_left, settings_of};
 ghost use Rattle.settings.specs.Reading.{given, CutInto, Read, KeyAt, Only, value_at, AllTaken};

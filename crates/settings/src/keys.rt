@@ -1,4 +1,4 @@
-ghost use Rattle.std.specs.Prelude.{◌≡◌, ℕ, List, map, take, Decides};
+ghost use Rattle.std.specs.Prelude.{ℕ, List, take, Decides};
 ghost use Rattle.std.specs.Iterator.{AlwaysYields, UpTo, YieldsFirstRef, item_count};
 ghost use Rattle.settings.specs.First.{Least};
 ghost use Rattle.settings.specs.Layout.{Among, Repeats};

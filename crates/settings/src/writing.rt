@@ -1,8 +1,8 @@
-ghost use Rattle.std.specs.Prelude.{◌≡◌, ◌^◌, ◌<◌, ◌≤◌, ◌++◌, map, length, take, IfOk, IfErr, Some, None, Decides, OnOk, from_bits, to_bits};
+ghost use Rattle.std.specs.Prelude.{◌≡◌, ◌^◌, ◌<◌, ◌≤◌, ◌++◌, map, length, IfOk, IfErr, Some, None, OnOk, from_bits, to_bits};
 ghost use Rattle.std.specs.Float.{binary64};
 ghost use Rattle.std.specs.List.{flat_map, AllByRecursion};
 ghost use Rattle.settings.specs.First.{Least};
-ghost use Rattle.settings.specs.Layout.{Among, Repeats, Distinct, Encodes, bytes_of, encode};
+ghost use Rattle.settings.specs.Layout.{Distinct, Encodes, bytes_of, encode};
 ghost use Rattle.settings.specs.Written.{keys_of, value_bits_of, given_by, TooLong, Refused, Restored, ValuesBack, ReadsBack, write_words};
 
 use crate::keys::{KeysOf, first_repeated};
@@ -96,7 +96,7 @@ fn push_lengths(file: &mut Vec<u8>, settings: &[Setting<'_>]) -> Result<(), Allo
     requires { Least (TooLong (keys_of settings.now)) None }
     ensures { OnOk result (file.new.items ≡ file.old.items ++ map length (keys_of settings.now)) }
 {
-    // A loop: in a chain the closure's cast would need a clause of its own.
+    // A loop: of `try_for_each` the check found neither that the cast fits nor what the calls leave in the file.
     for setting in settings {
         file.push(setting.key.len() as u8)?;
     }
@@ -106,7 +106,7 @@ fn push_lengths(file: &mut Vec<u8>, settings: &[Setting<'_>]) -> Result<(), Allo
 fn push_keys(file: &mut Vec<u8>, settings: &[Setting<'_>]) -> Result<(), AllocError>
     ensures { OnOk result (file.new.items ≡ file.old.items ++ flat_map (λ k. k) (keys_of settings.now)) }
 {
-    // A loop: it copies a key at once, and a flattened chain a byte at a time.
+    // A loop: of `try_for_each` the check did not find what the calls leave in the file.
     for setting in settings {
         file.extend_from_slice(setting.key)?;
     }
@@ -126,7 +126,7 @@ fn push_values(file: &mut Vec<u8>, settings: &[Setting<'_>]) -> Result<(), Alloc
     ensures doubles { OnOk result (AllByRecursion (λ b. b < 2 ^ 64) (value_bits_of settings.now)) }
     ensures restored { OnOk result (AllByRecursion Restored settings.now) }
 {
-    // A loop: no clause of a chain of arrays says what it flattens to.
+    // A loop, for the same reason.
     for setting in settings {
         file.extend_from_slice(&bits_of(setting.value).to_le_bytes())?;
     }

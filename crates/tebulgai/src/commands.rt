@@ -2,8 +2,17 @@
 use crate::failures::Failure;
 use crate::files::{load, load_text, on_file, store};
 use crate::help::HELP;
+use inspection::{report_listing, rewrite_listing};
 use report::{ReportError, TextError, pack, report_literals, unpack};
 use std::env;
+
+// How a report ends in which so many things are refused.
+fn refused(count: usize) -> Result<(), Failure> {
+    match count {
+        0 => Ok(()),
+        n => Err(Failure::Refusals(n)),
+    }
+}
 
 fn run_literals(rt: &HostRuntime, settings: &str, overrides: &str) -> Result<(), Failure> {
     let heap = rt.alloc();
@@ -17,10 +26,7 @@ fn run_literals(rt: &HostRuntime, settings: &str, overrides: &str) -> Result<(),
     };
     let report = on_file(heap, path, made)?;
     rt.print(report.text.as_str())?;
-    match report.tally.refusals() {
-        0 => Ok(()),
-        n => Err(Failure::Refusals(n)),
-    }
+    refused(report.tally.refusals())
 }
 
 fn run_pack(rt: &HostRuntime, text: &str, out: &str) -> Result<(), Failure> {
@@ -40,6 +46,22 @@ fn run_unpack(rt: &HostRuntime, settings: &str) -> Result<(), Failure> {
     Ok(())
 }
 
+fn run_check(rt: &HostRuntime, listing: &str) -> Result<(), Failure> {
+    let heap = rt.alloc();
+    let text = load_text(rt, listing)?;
+    let report = on_file(heap, listing, report_listing(heap, text.as_str()))?;
+    rt.print(report.text.as_str())?;
+    refused(report.tally.refusals)
+}
+
+fn run_print(rt: &HostRuntime, listing: &str) -> Result<(), Failure> {
+    let heap = rt.alloc();
+    let text = load_text(rt, listing)?;
+    let written = on_file(heap, listing, rewrite_listing(heap, text.as_str()))?;
+    rt.print(written.as_str())?;
+    Ok(())
+}
+
 fn run_help(rt: &HostRuntime) -> Result<(), Failure> {
     rt.print(HELP)?;
     Ok(())
@@ -54,6 +76,8 @@ pub(crate) fn run(rt: &HostRuntime) -> Result<(), Failure> {
         ["literals", settings, overrides] => run_literals(rt, settings, overrides),
         ["pack", text, out] => run_pack(rt, text, out),
         ["unpack", settings] => run_unpack(rt, settings),
+        ["check", listing] => run_check(rt, listing),
+        ["print", listing] => run_print(rt, listing),
         ["help"] => run_help(rt),
         _ => Err(Failure::Usage),
     }

@@ -1,4 +1,5 @@
 // Why the program ends with status 1.
+use inspection::InspectionError;
 use report::ReportError;
 use std::alloc::AllocError;
 use std::io;
@@ -13,6 +14,8 @@ pub enum FileError {
     // What it holds was not accepted.
     #[error(transparent)]
     Content(#[from] ReportError),
+    #[error(transparent)]
+    Listing(#[from] InspectionError),
 }
 
 #[derive(Debug, Drop, Error)]
@@ -21,7 +24,7 @@ pub enum Failure {
     Usage,
     #[error("{path}: {error}")]
     File { path: String, error: FileError },
-    // Overrides or keys were refused, and the report says which.
+    // Overrides, keys or tables were refused, and the report says which.
     #[error("{n} {noun}", n = *.0, noun = if *.0 == 1 {"refusal"} else {"refusals"})]
     Refusals(usize),
     // An error of the output, since errors of files are given their path.

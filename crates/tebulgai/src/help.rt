@@ -5,6 +5,8 @@ pub const HELP: &str = "tebulgai: values for the overrides of a shader module
   tebulgai literals SETTINGS OVERRIDES   what each override becomes under a settings file
   tebulgai pack TEXT OUT                 make the settings file OUT from a text
   tebulgai unpack SETTINGS               print a settings file as a text that pack takes
+  tebulgai check LISTING                 whether the tables of a shader are well formed, and what they hold
+  tebulgai print LISTING                 print a listing as it is written, with the index of each item
   tebulgai help                          print this
 
 A text of settings has a line `key = value` for each. A key is what stands before the first =,

@@ -1,0 +1,15 @@
+// What is said of a shader: whether its tables are well formed, and what they hold.
+#![tactic(auto)]
+
+mod counts;
+mod errors;
+mod listings;
+mod texts;
+mod verdicts;
+#[cfg(test)]
+mod tests;
+
+pub use counts::{first_with, kind_counts};
+pub use errors::InspectionError;
+pub use listings::{Report, report_listing, report_shader, rewrite_listing};
+pub use verdicts::{Tally, Verdicts, check_shader};

@@ -1,0 +1,163 @@
+// How the parts of a report look.
+use crate::counts::{first_with, kind_counts};
+use crate::verdicts::Tally;
+use arena::Entry;
+use blocks::deepest;
+use ir::{Body, Size, Sizes, Source};
+use operands::Sort;
+use places::TableName;
+use refusals::Refusal;
+use shader_text::kind_name;
+use std::alloc::AllocError;
+use std::fmt;
+use std::fmt::Write;
+
+impl fmt::Display for Tally {
+    fn fmt<W: fmt::Write>(&self, f: &mut fmt::Formatter<W>) -> fmt::Result {
+        let bodies = self.verdicts.saturating_sub(1);
+        let noun = if bodies == 1 { "body" } else { "bodies" };
+        let refusals = self.refusals;
+        write!(f, "a module and {bodies} {noun}: {refusals} refused")
+    }
+}
+
+fn put_kind(out: &mut String, sort: Sort, kind: u8) -> Result<(), AllocError> {
+    match kind_name(sort, kind) {
+        Some(name) => out.push_str(name),
+        None => write!(out, "of kind {kind}"),
+    }
+}
+
+// How many entries there are, and how often each kind stands there.
+fn put_entries(out: &mut String, sort: Sort, entries: &[Entry]) -> Result<(), AllocError> {
+    write!(out, "{}", entries.len())?;
+    let mut between = ": ";
+    for (kind, count) in (0..=u8::MAX).zip(kind_counts(entries)) {
+        if count > 0 {
+            write!(out, "{between}{count} ")?;
+            put_kind(out, sort, kind)?;
+            between = ", ";
+        }
+    }
+    Ok(())
+}
+
+// The sizes in the order of their places.
+const SIZES: [&str; 5] = ["x", "y", "z", "vertices", "primitives"];
+
+// The sizes that say something, and which expression gives them.
+fn put_sizes(out: &mut String, sizes: &Sizes) -> Result<(), AllocError> {
+    out.push_str("  sizes")?;
+    let mut between = " ";
+    for (name, Size { value, handle }) in SIZES.iter().zip(sizes.all()) {
+        if value != 0 || handle.is_some() {
+            write!(out, "{between}{name} {value}")?;
+            between = ", ";
+        }
+        if let Some(handle) = handle {
+            write!(out, " by expression {handle}")?;
+        }
+    }
+    out.push_str(if between == " " { " none\n" } else { "\n" })
+}
+
+// The entries over an operand list, by the list's name, and what one of them is called.
+#[derive(Clone, Copy)]
+pub(crate) struct Users<'s> {
+    table: TableName,
+    noun: &'static str,
+    entries: &'s [Entry],
+}
+
+pub(crate) fn module_users(source: &Source) -> [Users<'_>; 1] {
+    [Users {
+        table: TableName::GlobalOperands,
+        noun: "global expression",
+        entries: source.entries.as_slice(),
+    }]
+}
+
+pub(crate) fn body_users(body: &Body) -> [Users<'_>; 2] {
+    [
+        Users {
+            table: TableName::BodyOperands,
+            noun: "body expression",
+            entries: body.entries.as_slice(),
+        },
+        Users {
+            table: TableName::RecordOperands,
+            noun: "record",
+            entries: body.records.as_slice(),
+        },
+    ]
+}
+
+// An operand has no line of its own in a listing, so that the first entry which has it is named.
+fn put_user(out: &mut String, refusal: &Refusal, users: &[Users<'_>]) -> Result<(), AllocError> {
+    let (Refusal::Misshapen { place } | Refusal::OutOfRange { place }) = refusal else {
+        return Ok(());
+    };
+    for Users {
+        table,
+        noun,
+        entries,
+    } in users
+    {
+        if *table == place.table
+            && let Some(index) = first_with(entries, place.index)
+        {
+            write!(out, " (it stands in {noun} {index})")?;
+        }
+    }
+    Ok(())
+}
+
+// The line of a verdict, after what it is said of.
+pub(crate) fn put_verdict(
+    out: &mut String,
+    verdict: &Result<(), Refusal>,
+    users: &[Users<'_>],
+) -> Result<(), AllocError> {
+    match verdict {
+        Ok(()) => out.push_str(": well formed\n"),
+        Err(refusal) => {
+            let code = refusal.code();
+            write!(out, ": refusal {code}, {refusal}")?;
+            put_user(out, refusal, users)?;
+            out.push('\n')
+        }
+    }
+}
+
+// What a module's tables hold.
+pub(crate) fn put_source(
+    out: &mut String,
+    source: &Source,
+    sizes: &Sizes,
+) -> Result<(), AllocError> {
+    out.push_str("  expressions ")?;
+    put_entries(out, Sort::Expressions, &source.entries)?;
+    let operands = source.operands.len();
+    let constants = source.constants.len();
+    let overrides = source.overrides.len();
+    let names = source.names.len();
+    let variables = source.variables.len();
+    write!(out, "\n  operands {operands}, constants {constants}, overrides {overrides}")?;
+    writeln!(out, ", name bytes {names}, variables {variables}")?;
+    put_sizes(out, sizes)
+}
+
+// What a body's tables hold.
+pub(crate) fn put_body(out: &mut String, body: &Body) -> Result<(), AllocError> {
+    out.push_str("  expressions ")?;
+    put_entries(out, Sort::Expressions, &body.entries)?;
+    out.push_str("\n  records ")?;
+    put_entries(out, Sort::Records, &body.records)?;
+    let operands = body.operands.len();
+    let record_operands = body.record_operands.len();
+    let locals = body.locals.len();
+    let named = body.named.len();
+    let depth = deepest(&body.records);
+    write!(out, "\n  operands {operands}, record operands {record_operands}, locals {locals}")?;
+    writeln!(out, ", named {named}, blocks {depth} deep")
+}

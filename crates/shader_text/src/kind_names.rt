@@ -1,7 +1,8 @@
 // The names of the kinds of expression and of record, which are those of the kinds' own enums.
-ghost use Rattle.std.specs.Prelude.{◌≡◌, ◌≢◌, ℕ, Some, Decides, MatchOption};
+ghost use Rattle.std.specs.Prelude.{◌≡◌, ℕ, Some, Decides};
 ghost use Rattle.std.specs.List.{slice_get};
 ghost use Rattle.std.specs.Option.{option_map};
+ghost use Rattle.places.specs.First.{Least};
 ghost use Rattle.kinds.specs.Numbers.{expression_number, statement_number};
 ghost use Rattle.shader_text.specs.KindNames.{expression_names, record_names, names_of};
 
@@ -114,9 +115,13 @@ fn is_named(sort: Sort, kind: u8, word: &str) -> bool
     kind_name(sort, kind) == Some(word)
 }
 
-// The kind that has this name: the least, and as no name stands twice the only one.
+// No table has more kinds.
+const KINDS: u8 = 34;
+
+// The kind that has this name: the least one, and the only one.
 pub fn kind_named(sort: Sort, word: &str) -> Option<u8>
-    ensures { MatchOption result ((k : ℕ) → slice_get (names_of sort) k ≢ Some word.now) (λ k. slice_get (names_of sort) k ≡ Some word.now) }
+    ensures least { Least (λ k. slice_get (names_of sort) k ≡ Some word.now) result }
+    ensures back { (k : ℕ) → slice_get (names_of sort) k ≡ Some word.now → result ≡ Some k }
 {
-    (0..=u8::MAX).find(|kind| is_named(sort, *kind, word))
+    (0..KINDS).find(|kind| is_named(sort, *kind, word))
 }

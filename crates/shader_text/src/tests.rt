@@ -66,10 +66,12 @@ fn texts_come_back(rt: HostRuntime) -> Result<(), Fail> {
 #[test]
 fn loose_texts_are_read(rt: HostRuntime) -> Result<(), Fail> {
     let heap = rt.alloc();
-    let loose = "# a comment\n\n size  z 7\n\tbody # one\nentry Load  0 0 0 0 : 3 / 0..0 # three\r\n  local -\nglobal 18 4 1\nlocal 0\nsize x 0\n";
+    let loose =
+        "# a comment\n\n size  z 7\n\tbody # one\nentry Load  0 0 0 0 : 3 / 0..0 # three\r\n  local -\nglobal 18 4 1\nlocal 0\nsize x 0\n";
     let shader = read_shader(heap, loose)?;
     let text = write_shader(heap, &shader)?;
-    let tight = "global Literal 4 1  # 0\nsize z 7\n\nbody  # 0\nentry Load : 3  # 0\nlocal -  # 0\nlocal 0  # 1\n";
+    let tight =
+        "global Literal 4 1  # 0\nsize z 7\n\nbody  # 0\nentry Load : 3  # 0\nlocal -  # 0\nlocal 0  # 1\n";
     assert_eq!(rt; text.as_str(), tight);
     Ok(())
 }
@@ -128,12 +130,7 @@ impl Chance {
         } else {
             self.byte() & 31
         };
-        let words = [
-            self.number(),
-            self.number(),
-            self.below(2),
-            self.below(2),
-        ];
+        let words = [self.number(), self.number(), self.below(2), self.below(2)];
         let run = self.run(end);
         let start = self.below(2);
         Entry {
@@ -183,7 +180,11 @@ impl Chance {
         let name = self.run(end);
         let is_named = self.below(4) != 0;
         Override {
-            id: if self.below(2) == 0 { Some(u16::from(self.byte())) } else { None },
+            id: if self.below(2) == 0 {
+                Some(u16::from(self.byte()))
+            } else {
+                None
+            },
             name: if is_named { Some(name) } else { None },
             scalar: Scalar { kind, width },
             init: self.maybe(),
@@ -218,7 +219,9 @@ impl Chance {
     fn source(&mut self, heap: Global) -> Result<Source, AllocError> {
         let mut constants = Vec::new(heap);
         for _ in 0..self.below(4) {
-            constants.push(Constant { init: self.number() })?;
+            constants.push(Constant {
+                init: self.number(),
+            })?;
         }
         Ok(Source {
             entries: self.entries(heap)?,

@@ -1,4 +1,7 @@
 // Writing a listing.
+ghost use Rattle.std.specs.Prelude.{◌≡◌, ◌+◌, ◌≤◌, true, false, length, slice_range, MatchOption, IfSome};
+ghost use Rattle.shader_text.specs.Words.{in_line_of};
+
 use crate::kind_names::kind_name;
 use crate::name_texts::{name_text, quoted};
 use crate::reading::SIZES;
@@ -13,6 +16,7 @@ use std::fmt::Write;
 
 // How many operands stand in a line of their own, and how many name bytes.
 const OPERANDS: usize = 16;
+
 const NAME_BYTES: usize = 32;
 
 // A handle where none is written -.
@@ -74,7 +78,10 @@ fn put_operands(out: &mut String, operands: &[Handle]) -> Result<(), AllocError>
 }
 
 // The stretch of a list that is a run, if the run lies in the list and begins right after what is written of it.
-fn in_line<T>(list: &[T], done: usize, run: Run) -> Option<&[T]> {
+fn in_line<T>(list: &[T], done: usize, run: Run) -> Option<&[T]>
+    ensures found { MatchOption result (in_line_of (length list.now) done run ≡ false) (λ s. (in_line_of (length list.now) done run ≡ true) × (s.now ≡ slice_range list.now run.at (run.at + run.len))) }
+    ensures within { IfSome result (λ s. done + length s.now ≤ length list.now) }
+{
     if run.at as usize == done {
         list.get(done..done + run.len as usize)
     } else {

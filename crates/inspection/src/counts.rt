@@ -1,5 +1,5 @@
 // What stands in a table of entries or of records.
-ghost use Rattle.std.specs.Prelude.{◌≡◌, ℕ, ◌<◌, ◌==◌, count_by, slice_index};
+ghost use Rattle.std.specs.Prelude.{◌≡◌, ℕ, ◌<◌, true, ◌==◌, count_by, slice_index};
 ghost use Rattle.places.specs.First.{Least, Holds};
 ghost use Rattle.inspection.specs.Verdicts.{covers};
 

@@ -31,12 +31,13 @@ fn put_kind(out: &mut String, sort: Sort, kind: u8) -> Result<(), AllocError> {
 // How many entries there are, and how often each kind stands there.
 fn put_entries(out: &mut String, sort: Sort, entries: &[Entry]) -> Result<(), AllocError> {
     write!(out, "{}", entries.len())?;
-    let mut between = ": ";
+    let mut any = false;
     for (kind, count) in (0..=u8::MAX).zip(kind_counts(entries)) {
         if count > 0 {
-            write!(out, "{between}{count} ")?;
+            out.push_str(if any { ", " } else { ": " })?;
+            write!(out, "{count} ")?;
             put_kind(out, sort, kind)?;
-            between = ", ";
+            any = true;
         }
     }
     Ok(())
@@ -45,20 +46,28 @@ fn put_entries(out: &mut String, sort: Sort, entries: &[Entry]) -> Result<(), Al
 // The sizes in the order of their places.
 const SIZES: [&str; 5] = ["x", "y", "z", "vertices", "primitives"];
 
-// The sizes that say something, and which expression gives them.
+// A size, and which expression gives it.
+fn put_size(out: &mut String, name: &str, size: Size) -> Result<(), AllocError> {
+    let Size { value, handle } = size;
+    write!(out, "{name} {value}")?;
+    match handle {
+        Some(handle) => write!(out, " by expression {handle}"),
+        None => Ok(()),
+    }
+}
+
+// The sizes that say something.
 fn put_sizes(out: &mut String, sizes: &Sizes) -> Result<(), AllocError> {
-    out.push_str("  sizes")?;
-    let mut between = " ";
-    for (name, Size { value, handle }) in SIZES.iter().zip(sizes.all()) {
-        if value != 0 || handle.is_some() {
-            write!(out, "{between}{name} {value}")?;
-            between = ", ";
-        }
-        if let Some(handle) = handle {
-            write!(out, " by expression {handle}")?;
+    out.push_str("  sizes ")?;
+    let mut any = false;
+    for (name, size) in SIZES.iter().zip(sizes.all()) {
+        if size.value != 0 || size.handle.is_some() {
+            out.push_str(if any { ", " } else { "" })?;
+            put_size(out, name, size)?;
+            any = true;
         }
     }
-    out.push_str(if between == " " { " none\n" } else { "\n" })
+    out.push_str(if any { "\n" } else { "none\n" })
 }
 
 // The entries over an operand list, by the list's name, and what one of them is called.

@@ -2,7 +2,7 @@
 use crate::faults::{Fault, ShaderError};
 use crate::name_texts::{read_bytes, read_name_text};
 use crate::shader::Shader;
-use crate::words::{only, read_handle, read_init, read_kind, read_numbers, read_run, read_span};
+use crate::words::{NO_SPAN, only, read_handle, read_init, read_kind, read_numbers, read_run, read_span};
 use arena::{Entry, Handle, Run, Span};
 use ir::{Body, Constant, Override, Size, Sizes, Source};
 use listing::read_scalar;
@@ -61,7 +61,7 @@ fn begins_operands(word: &str) -> bool {
 fn without_span<'s, 'w>(words: &'s [&'w str]) -> Result<(&'s [&'w str], Span), Fault> {
     match words {
         [rest @ .., "/", span] => Ok((rest, read_span(span)?)),
-        _ => Ok((words, Span { start: 0, end: 0 })),
+        _ => Ok((words, NO_SPAN)),
     }
 }
 

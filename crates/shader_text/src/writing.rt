@@ -2,50 +2,21 @@
 ghost use Rattle.std.specs.Prelude.{◌≡◌, ◌+◌, ◌≤◌, true, false, length, slice_range, MatchOption, IfSome};
 ghost use Rattle.shader_text.specs.Words.{in_line_of};
 
-use crate::kind_names::kind_name;
 use crate::name_texts::{name_text, quoted};
 use crate::reading::SIZES;
 use crate::shader::Shader;
-use arena::{ABSENT, Entry, Handle, Run, Span};
+use crate::words::{HandleWord, InitWord, KindWord, NO_SPAN, RunWord, SpanWord};
+use arena::{Entry, Handle, Run};
 use ir::{Body, Override, Size, Sizes, Source};
 use listing::ScalarName;
 use operands::Sort;
 use std::alloc::{AllocError, Global};
-use std::fmt;
 use std::fmt::Write;
 
 // How many operands stand in a line of their own, and how many name bytes.
 const OPERANDS: usize = 16;
 
 const NAME_BYTES: usize = 32;
-
-// A handle where none is written -.
-#[derive(Clone, Copy)]
-struct HandleWord(Handle);
-
-impl fmt::Display for HandleWord {
-    fn fmt<W: fmt::Write>(&self, f: &mut fmt::Formatter<W>) -> fmt::Result {
-        let handle = self.0;
-        if handle == ABSENT {
-            f.write_str("-")
-        } else {
-            write!(f, "{handle}")
-        }
-    }
-}
-
-// A handle that may be left out.
-#[derive(Clone, Copy)]
-struct InitWord(Option<Handle>);
-
-impl fmt::Display for InitWord {
-    fn fmt<W: fmt::Write>(&self, f: &mut fmt::Formatter<W>) -> fmt::Result {
-        match self.0 {
-            Some(handle) => write!(f, "{handle}"),
-            None => f.write_str("-"),
-        }
-    }
-}
 
 // Ends the line of an item, with its index for people.
 fn end_item(out: &mut String, index: usize) -> Result<(), AllocError> {
@@ -97,7 +68,7 @@ fn put_run(
     run: Run,
 ) -> Result<usize, AllocError> {
     let Some(line) = in_line(operands, done, run) else {
-        write!(out, " @{}+{}", run.at, run.len)?;
+        write!(out, " {}", RunWord(run))?;
         return Ok(done);
     };
     if !line.is_empty() {
@@ -105,13 +76,6 @@ fn put_run(
         put_operands(out, line)?;
     }
     Ok(done + line.len())
-}
-
-fn put_kind(out: &mut String, sort: Sort, kind: u8) -> Result<(), AllocError> {
-    match kind_name(sort, kind) {
-        Some(name) => write!(out, " {name}"),
-        None => write!(out, " {kind}"),
-    }
 }
 
 // A line without its end.
@@ -122,12 +86,11 @@ fn put_entry(
     operands: &[Handle],
     done: usize,
 ) -> Result<usize, AllocError> {
-    put_kind(out, sort, entry.kind)?;
+    write!(out, " {}", KindWord(sort, entry.kind))?;
     put_words(out, &entry.words)?;
     let done = put_run(out, operands, done, entry.run)?;
-    let Span { start, end } = entry.span;
-    if start != 0 || end != 0 {
-        write!(out, " / {start}..{end}")?;
+    if entry.span != NO_SPAN {
+        write!(out, " / {}", SpanWord(entry.span))?;
     }
     Ok(done)
 }
@@ -172,7 +135,7 @@ fn put_name(
         return Ok(done);
     };
     let Some(name) = in_line(names, done, run) else {
-        write!(out, " @{}+{}", run.at, run.len)?;
+        write!(out, " {}", RunWord(run))?;
         return Ok(done);
     };
     let text = name_text(heap, name)?;

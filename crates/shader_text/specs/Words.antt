@@ -1,5 +1,5 @@
 -- How the words of a listing stand for handles, kinds, runs and spans.
-use Rattle.std.specs.Prelude.{ℕ, ◌+◌, Bool, ◌&&◌, cond, List, ◌++◌, ◌==◌, nat_le, Option, Some, None, codes, decimal, unwrap_or}
+use Rattle.std.specs.Prelude.{◌≡◌, ◌≢◌, ℕ, ◌+◌, ◌≤◌, Bool, ◌&&◌, cond, List, ◌++◌, ◌==◌, nat_le, Option, Some, None, codes, decimal, unwrap_or, slice_index}
 use Rattle.std.specs.List.{slice_get}
 use Rattle.arena.specs.declared.entry.Run.{Run}
 use Rattle.arena.specs.declared.entry.Span.{Span}
@@ -32,3 +32,7 @@ span_word s = pair_word (codes "..") s.start s.end
 -- the run begins right after the first `done` items of a list of n, and lies in the list
 abbrev pub in_line_of : ℕ → ℕ → Run → Bool
 in_line_of n done r = (r.at == done) && nat_le (r.at + r.len) n
+
+-- of four words all from n on are 0, and the one before them, if there is one, is not
+abbrev pub Cut : List ℕ → ℕ → Type 0
+Cut ws n = (n ≤ 4) × ((k : ℕ) → n ≤ k → slice_index ws k ≡ 0) × ((m : ℕ) → n ≡ m + 1 → slice_index ws m ≢ 0)

@@ -1,4 +1,7 @@
 // Reading a listing.
+ghost use Rattle.std.specs.Prelude.{◌≡◌, MatchResult};
+ghost use Rattle.shader_text.specs.declared.faults.Fault.TheVariants.{TooLong};
+
 use crate::faults::{Fault, ShaderError};
 use crate::name_texts::{read_bytes, read_name_text};
 use crate::shader::Shader;
@@ -24,7 +27,9 @@ const OF_BODIES: [&str; 6] = [
 ];
 
 // A stretch at the end of a list of this length.
-fn run_at_end(len: usize, more: usize) -> Result<Run, Fault> {
+fn run_at_end(len: usize, more: usize) -> Result<Run, Fault>
+    ensures { MatchResult result (λ r. (r.at ≡ len) × (r.len ≡ more)) (λ e. e ≡ TooLong) }
+{
     Ok(Run {
         at: u32::try_from(len).map_err(|_| Fault::TooLong)?,
         len: u32::try_from(more).map_err(|_| Fault::TooLong)?,

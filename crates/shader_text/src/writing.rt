@@ -1,6 +1,6 @@
 // Writing a listing.
 ghost use Rattle.std.specs.Prelude.{◌≡◌, ◌+◌, ◌≤◌, true, false, length, slice_range, MatchOption, IfSome};
-ghost use Rattle.shader_text.specs.Words.{in_line_of};
+ghost use Rattle.shader_text.specs.Words.{Cut, in_line_of};
 
 use crate::name_texts::{name_text, quoted};
 use crate::reading::SIZES;
@@ -24,7 +24,9 @@ fn end_item(out: &mut String, index: usize) -> Result<(), AllocError> {
 }
 
 // How many of an entry's words are written: those up to the last that is not 0.
-fn words_used(words: &[u32; 4]) -> usize {
+fn words_used(words: &[u32; 4]) -> usize
+    ensures { Cut words.now result }
+{
     match words {
         [0, 0, 0, 0] => 0,
         [_, 0, 0, 0] => 1,

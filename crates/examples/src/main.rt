@@ -11,7 +11,10 @@ fn put_report(rt: &HostRuntime, heap: Global, text: &str) -> anyhow::Result<()> 
     rt.print(report.text.as_str())?;
     let written = rewrite_listing(heap, text)?;
     let again = rewrite_listing(heap, written.as_str())?;
-    ensure!(written.as_str() == again.as_str(), "the written form does not read back");
+    ensure!(
+        written.as_str() == again.as_str(),
+        "the written form does not read back"
+    );
     println!(rt; "written in {} lines", written.as_str().lines().count())?;
     Ok(())
 }

@@ -37,7 +37,7 @@ judged_more bodies bs m vs vs' b v is more so_far h =
     record {
       as_many = ap length more ∙ length-append vs (v ∷ []) ∙ ap (λ n. n + 1) so_far.as_many ∙ sym (length-append bs (b ∷ [])) ∙ sym (ap length is);
       each = λ k b' v' e f.
-        judged_either bs m vs b b' v v' k so_far h
+          judged_either bs m vs b b' v v' k so_far h
           (last_or_earlier bs b b' k (sym (ap (λ l. slice_get l k) is) ∙ e))
           (last_or_earlier vs v v' k (sym (ap (λ l. slice_get l k) more) ∙ f));
     }

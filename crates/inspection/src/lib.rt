@@ -4,10 +4,10 @@
 mod counts;
 mod errors;
 mod listings;
-mod texts;
-mod verdicts;
 #[cfg(test)]
 mod tests;
+mod texts;
+mod verdicts;
 
 pub use counts::{first_with, kind_counts};
 pub use errors::InspectionError;

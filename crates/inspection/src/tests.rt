@@ -4,9 +4,11 @@ use std::test::Fail;
 #[test]
 fn a_listing_is_reported(rt: HostRuntime) -> Result<(), Fail> {
     let heap = rt.alloc();
-    let text = "global Literal 4 64\nglobal 99\nsize x 1 0\nsize vertices 3\n\nbody\nrecord Open\nrecord Close\n\nbody\nentry Load : 0\n";
+    let text =
+        "global Literal 4 64\nglobal 99\nsize x 1 0\nsize vertices 3\n\nbody\nrecord Open\nrecord Close\n\nbody\nentry Load : 0\n";
     let report = report_listing(heap, text)?;
-    let expected = "module: refusal 3, global expression 1: its kind is unknown, the number of its operands is wrong, they lie outside the operand list, or the table is over its limit
+    let expected =
+        "module: refusal 3, global expression 1: its kind is unknown, the number of its operands is wrong, they lie outside the operand list, or the table is over its limit
   expressions 2: 1 Literal, 1 of kind 99
   operands 0, constants 0, overrides 0, name bytes 0, variables 0
   sizes x 1 by expression 0, vertices 3

@@ -5,7 +5,7 @@ use arena::Entry;
 use blocks::deepest;
 use ir::{Body, Size, Sizes, Source};
 use operands::Sort;
-use places::TableName;
+use places::{Place, TableName};
 use refusals::Refusal;
 use shader_text::kind_name;
 use std::alloc::AllocError;
@@ -101,17 +101,13 @@ pub(crate) fn body_users(body: &Body) -> [Users<'_>; 2] {
     ]
 }
 
-// An operand has no line of its own in a listing, so that the first entry which has it is named.
-fn put_user(out: &mut String, refusal: &Refusal, users: &[Users<'_>]) -> Result<(), AllocError> {
-    let (Refusal::Misshapen { place } | Refusal::OutOfRange { place }) = refusal else {
-        return Ok(());
-    };
+// The first entry that has an operand, which has no line of its own in a listing.
+fn put_user(out: &mut String, place: Place, users: &[Users<'_>]) -> Result<(), AllocError> {
     for Users {
         table,
         noun,
         entries,
-    } in users
-    {
+    } in users {
         if *table == place.table
             && let Some(index) = first_with(entries, place.index)
         {
@@ -119,6 +115,22 @@ fn put_user(out: &mut String, refusal: &Refusal, users: &[Users<'_>]) -> Result<
         }
     }
     Ok(())
+}
+
+// Whether the records end before a number.
+fn end_before(users: &[Users<'_>], record: usize) -> bool {
+    users.iter().any(|user| user.table == TableName::RecordOperands && user.entries.len() == record)
+}
+
+// What helps to find a place in a listing.
+fn put_note(out: &mut String, refusal: &Refusal, users: &[Users<'_>]) -> Result<(), AllocError> {
+    match *refusal {
+        Refusal::Misshapen { place } | Refusal::OutOfRange { place } => put_user(out, place, users),
+        Refusal::NotOneBlock { record } if end_before(users, record) => out.push_str(
+            " (the records end before it)",
+        ),
+        _ => Ok(()),
+    }
 }
 
 // The line of a verdict, after what it is said of.
@@ -132,7 +144,7 @@ pub(crate) fn put_verdict(
         Err(refusal) => {
             let code = refusal.code();
             write!(out, ": refusal {code}, {refusal}")?;
-            put_user(out, refusal, users)?;
+            put_note(out, refusal, users)?;
             out.push('\n')
         }
     }
@@ -151,7 +163,10 @@ pub(crate) fn put_source(
     let overrides = source.overrides.len();
     let names = source.names.len();
     let variables = source.variables.len();
-    write!(out, "\n  operands {operands}, constants {constants}, overrides {overrides}")?;
+    write!(
+        out,
+        "\n  operands {operands}, constants {constants}, overrides {overrides}"
+    )?;
     writeln!(out, ", name bytes {names}, variables {variables}")?;
     put_sizes(out, sizes)
 }
@@ -167,6 +182,9 @@ pub(crate) fn put_body(out: &mut String, body: &Body) -> Result<(), AllocError> 
     let locals = body.locals.len();
     let named = body.named.len();
     let depth = deepest(&body.records);
-    write!(out, "\n  operands {operands}, record operands {record_operands}, locals {locals}")?;
+    write!(
+        out,
+        "\n  operands {operands}, record operands {record_operands}, locals {locals}"
+    )?;
     writeln!(out, ", named {named}, blocks {depth} deep")
 }

@@ -37,7 +37,11 @@ impl Verdicts {
     pub fn tally(&self) -> Tally
         ensures { result ≡ tally_of self.now }
     {
-        let refused = self.bodies.iter().filter(|verdict| verdict.is_err()).count();
+        let refused = self
+            .bodies
+            .iter()
+            .filter(|verdict| verdict.is_err())
+            .count();
         Tally {
             verdicts: self.bodies.len().saturating_add(1),
             refusals: refused.saturating_add(usize::from(self.module.is_err())),

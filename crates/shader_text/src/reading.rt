@@ -5,7 +5,9 @@ ghost use Rattle.shader_text.specs.declared.faults.Fault.TheVariants.{TooLong};
 use crate::faults::{Fault, ShaderError};
 use crate::name_texts::{read_bytes, read_name_text};
 use crate::shader::Shader;
-use crate::words::{NO_SPAN, only, read_handle, read_init, read_kind, read_numbers, read_run, read_span};
+use crate::words::{
+    NO_SPAN, only, read_handle, read_init, read_kind, read_numbers, read_run, read_span,
+};
 use arena::{Entry, Handle, Run, Span};
 use ir::{Body, Constant, Override, Size, Sizes, Source};
 use listing::read_scalar;

@@ -1,5 +1,5 @@
 -- One entry more is counted.
-use Rattle.std.proofs.Common.{◌≡◌, ℕ, ◌+◌, ◌<◌, Bool, true, false, List, length, get_or, take, set, ◌==◌, count_by, slice_index, slice_index_or, slice_set, refl, sym, ap, ◌∙◌, rules, tests, arith}
+use Rattle.std.proofs.Common.{◌≡◌, ℕ, ◌+◌, ◌<◌, Bool, true, false, List, length, get_or, take, ◌==◌, count_by, slice_index, slice_index_or, slice_set, tests, arith}
 use Rattle.std.proofs.lemmas.Grind.{common_steps}
 use Rattle.std.proofs.lemmas.List.Sums.{count_by_more_yes, count_by_more_no}
 use Rattle.arena.specs.declared.entry.Entry.{Entry}

@@ -7,7 +7,7 @@ use ir::{Body, Size, Sizes, Source};
 use operands::Sort;
 use places::{Place, TableName};
 use refusals::Refusal;
-use shader_text::kind_name;
+use shader_text::{SIZE_NAMES, kind_name};
 use std::alloc::AllocError;
 use std::fmt;
 use std::fmt::Write;
@@ -43,9 +43,6 @@ fn put_entries(out: &mut String, sort: Sort, entries: &[Entry]) -> Result<(), Al
     Ok(())
 }
 
-// The sizes in the order of their places.
-const SIZES: [&str; 5] = ["x", "y", "z", "vertices", "primitives"];
-
 // A size, and which expression gives it.
 fn put_size(out: &mut String, name: &str, size: Size) -> Result<(), AllocError> {
     let Size { value, handle } = size;
@@ -60,7 +57,7 @@ fn put_size(out: &mut String, name: &str, size: Size) -> Result<(), AllocError> 
 fn put_sizes(out: &mut String, sizes: &Sizes) -> Result<(), AllocError> {
     out.push_str("  sizes ")?;
     let mut any = false;
-    for (name, size) in SIZES.iter().zip(sizes.all()) {
+    for (name, size) in SIZE_NAMES.iter().zip(sizes.all()) {
         if size.value != 0 || size.handle.is_some() {
             out.push_str(if any { ", " } else { "" })?;
             put_size(out, name, size)?;

@@ -14,6 +14,6 @@ mod writing;
 pub use faults::{Fault, ShaderError};
 pub use kind_names::{kind_name, kind_named};
 pub use name_texts::{name_text, read_name_text};
-pub use reading::read_shader;
+pub use reading::{SIZE_NAMES, read_shader};
 pub use shader::Shader;
 pub use writing::write_shader;

@@ -15,8 +15,8 @@ use operands::Sort;
 use settings::read_decimal;
 use std::alloc::Global;
 
-// The sizes in the order of their places.
-pub(crate) const SIZES: [&str; 5] = ["x", "y", "z", "vertices", "primitives"];
+// The names of the sizes, in the order of their places.
+pub const SIZE_NAMES: [&str; 5] = ["x", "y", "z", "vertices", "primitives"];
 
 // What belongs to a body.
 const OF_BODIES: [&str; 6] = [
@@ -151,7 +151,7 @@ fn read_size(words: &[&str]) -> Result<(usize, Size), Fault> {
     let [name, value, handle @ ..] = words else {
         return Err(Fault::TooFewWords);
     };
-    let place = SIZES
+    let place = SIZE_NAMES
         .iter()
         .position(|size| *size == *name)
         .ok_or(Fault::NoSuchSize)?;

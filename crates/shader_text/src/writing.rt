@@ -3,7 +3,7 @@ ghost use Rattle.std.specs.Prelude.{◌≡◌, ◌+◌, ◌≤◌, true, false, 
 ghost use Rattle.shader_text.specs.Words.{Cut, in_line_of};
 
 use crate::name_texts::{name_text, quoted};
-use crate::reading::SIZES;
+use crate::reading::SIZE_NAMES;
 use crate::shader::Shader;
 use crate::words::{HandleWord, InitWord, KindWord, NO_SPAN, RunWord, SpanWord};
 use arena::{Entry, Handle, Run};
@@ -199,7 +199,7 @@ fn put_inits(out: &mut String, item: &str, inits: &[Option<Handle>]) -> Result<(
 
 // The sizes that say something.
 fn put_sizes(out: &mut String, sizes: &Sizes) -> Result<(), AllocError> {
-    for (name, Size { value, handle }) in SIZES.iter().zip(sizes.all()) {
+    for (name, Size { value, handle }) in SIZE_NAMES.iter().zip(sizes.all()) {
         match handle {
             Some(handle) => writeln!(out, "size {name} {value} {handle}")?,
             None if value != 0 => writeln!(out, "size {name} {value}")?,

@@ -1,4 +1,4 @@
-use Rattle.std.proofs.Common.{◌≡◌, ◌==◌, refl, rules}
+use Rattle.std.proofs.Common.{◌==◌, refl, rules}
 use Rattle.std.proofs.lemmas.List.{get_or-replicate}
 use Rattle.inspection.proofs.Counting.{one_more}
 use Rattle.inspection.proofs.counts.kind_counts.Goals as goal

@@ -1,4 +1,4 @@
-use Rattle.std.proofs.Common.{◌≡◌, ◌+◌, ◌<◌, [], length, get_or, arith, ◌∷◌, ◌++◌, take, vec_items, sym, ap, ◌∙◌}
+use Rattle.std.proofs.Common.{◌+◌, ◌<◌, [], length, get_or, arith, ◌∷◌, ◌++◌, take, vec_items, sym, ap, ◌∙◌}
 use Rattle.std.proofs.lemmas.List.{take_more}
 use Rattle.inspection.proofs.Judging.{judged_more}
 use Rattle.inspection.proofs.verdicts.check_shader.Goals as goal

@@ -1,5 +1,5 @@
 // Values kept by handle.
-ghost use Rattle.std.specs.Prelude.{◌≡◌, ◌≤◌, [], length};
+ghost use Rattle.std.specs.Prelude.{◌≡◌, ◌+◌, ◌≤◌, [], length};
 ghost use Rattle.std.specs.List.{slice_get};
 
 use crate::entry::Handle;
@@ -41,6 +41,13 @@ impl<'a, U: Copy> HandleVec<'a, U> {
         ensures bound { result ≤ length (every self.now) }
     {
         self.count
+    }
+
+    // How many values more it takes.
+    pub fn room(&self) -> usize
+        ensures { result + length (held self.now) ≡ length (every self.now) }
+    {
+        self.slots.len() - self.count
     }
 
     // The value of a handle, if it has one.

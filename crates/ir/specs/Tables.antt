@@ -1,6 +1,6 @@
 -- The tables of a module and of a body, and which of their places are at fault. Tables go by their numbers: 0 global entries, 1 their
 -- operands, 2 constants, 3 overrides, 4 variable inits, 5 body entries, 6 their operands, 7 records, 8 their operands, 9 local inits,
--- 10 named expressions, 11 sizes.
+-- 10 named handles, 11 sizes.
 use Rattle.std.specs.Prelude.{◌≡◌, ℕ, Bool, true, false, ◌⊎◌, List, [], ◌∷◌, length, vec_items, MatchBool, Option, Some, None, ◌==◌, slice_index_or}
 use Rattle.places.specs.First.{Holds, Over}
 use Rattle.operands.specs.declared.Sort.{Sort}

@@ -48,7 +48,7 @@ pub struct Source {
     pub variables: Vec<Option<Handle>>,
 }
 
-// A function's body. Local inits may be absent, named expressions may not.
+// A function's body. Local inits may be absent, named handles may not.
 #[derive(PartialEq, Eq, Debug, Drop)]
 pub struct Body {
     pub entries: Vec<Entry>,

@@ -76,7 +76,7 @@ pub enum Refusal {
     UnsupportedScalar {
         number: usize,
     },
-    #[error("override {number}: its init comes after the first use of it")]
+    #[error("override {number}: its init has no image yet where it is settled")]
     InitNotMapped {
         number: usize,
     },
@@ -92,11 +92,11 @@ pub enum Refusal {
     RuntimeExpr {
         handle: Handle,
     },
-    #[error("the workgroup size {axis} is no whole number above zero")]
+    #[error("the workgroup size {axis} is no u32 or i32 above zero")]
     NegativeWorkgroupSize {
         axis: Axis,
     },
-    #[error("the largest number of mesh {which} is no whole number from zero")]
+    #[error("the largest number of mesh {which} is no u32, nor an i32 from zero")]
     NegativeMeshOutputMax {
         which: MeshOutput,
     },

@@ -36,7 +36,7 @@ fn overrides_in_words(rt: HostRuntime) {
     );
     assert!(rt;
         words(Refusal::InitNotMapped { number: 6 }).as_str()
-            == "override 6: its init comes after the first use of it"
+            == "override 6: its init has no image yet where it is settled"
     );
 }
 
@@ -62,11 +62,11 @@ fn sizes_in_words(rt: HostRuntime) {
     let axis = Axis::Y;
     assert!(rt;
         words(Refusal::NegativeWorkgroupSize { axis }).as_str()
-            == "the workgroup size y is no whole number above zero"
+            == "the workgroup size y is no u32 or i32 above zero"
     );
     let which = MeshOutput::Primitives;
     assert!(rt;
         words(Refusal::NegativeMeshOutputMax { which }).as_str()
-            == "the largest number of mesh primitives is no whole number from zero"
+            == "the largest number of mesh primitives is no u32, nor an i32 from zero"
     );
 }

@@ -19,7 +19,7 @@ pub(crate) fn item_word(table: TableName) -> &'static str {
         TableName::Records => "record",
         TableName::RecordOperands => "record operand",
         TableName::LocalInits => "local init",
-        TableName::NamedHandles => "named expression",
+        TableName::NamedHandles => "named handle",
         TableName::Sizes => "size",
         TableName::HandleTable => "image of a handle",
         TableName::OverridesConstants => "constant of an override",

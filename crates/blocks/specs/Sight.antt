@@ -39,14 +39,17 @@ results n = operands_that result_slot n
 
 -- ---- what is in sight
 
--- an entry that is in effect without being emitted: Literal, FunctionArgument, GlobalVariable, LocalVariable, Constant, Override, ZeroValue
 abbrev pub one_of : List ℕ → ℕ → Bool
 one_of [] k = false
 one_of (x ∷ xs) k = cond (k == x) true (one_of xs k)
 
+-- what is in effect without being emitted: Literal, FunctionArgument, GlobalVariable, LocalVariable, Constant, Override, ZeroValue
+abbrev pub is_pre_emit : ℕ → Bool
+is_pre_emit = one_of (18 ∷ 19 ∷ 20 ∷ 21 ∷ 24 ∷ 25 ∷ 26 ∷ [])
+
 abbrev pub pre_emit : Option Node → Bool
 pre_emit None = false
-pre_emit (Some e) = one_of (18 ∷ 19 ∷ 20 ∷ 21 ∷ 24 ∷ 25 ∷ 26 ∷ []) e.kind
+pre_emit (Some e) = is_pre_emit e.kind
 
 -- over the entries es, the handle h is in sight where the handles s were emitted or named
 abbrev pub Sees : List Node → List ℕ → ℕ → Type 0

@@ -26,3 +26,9 @@ module _ {U : Type 0} where
   Inserted handle x v w (Ok _) = Grew handle x v w
   Inserted handle x v w (Err WrongHandle) = (handle ≡ length (held v) → ⊥) × (w ≡ v)
   Inserted handle x v w (Err Full) = (handle ≡ length (held v)) × (length (held v) ≡ length (slots v)) × (w ≡ v)
+
+  -- what `push` of x answers, and what it makes of v
+  abbrev pub Pushed : U → HandleVec U → HandleVec U → Result (Unit {0}) InsertError → Type 0
+  Pushed x v w (Ok _) = Grew (length (held v)) x v w
+  Pushed x v w (Err WrongHandle) = ⊥
+  Pushed x v w (Err Full) = (length (held v) ≡ length (slots v)) × (w ≡ v)

@@ -24,7 +24,7 @@ pub enum InsertError {
 }
 
 impl<'a, U: Copy> HandleVec<'a, U> {
-    ghost use Rattle.arena.specs.Held.{held, slots as every, Inserted};
+    ghost use Rattle.arena.specs.Held.{held, slots as every, Inserted, Pushed};
 
     // Holds nothing yet, whatever stands in the slots.
     pub fn new(slots: &'a mut [U]) -> HandleVec<'a, U>
@@ -64,6 +64,20 @@ impl<'a, U: Copy> HandleVec<'a, U> {
         &self.slots[..self.count]
     }
 
+    // Gives the next handle its value, whichever it is. Where it refuses, nothing is written.
+    pub fn push(&mut self, value: U) -> Result<(), InsertError>
+        ensures cases { Pushed value self.old self.new result }
+        ensures lender { self.new.slots.ghost_name ≡ self.old.slots.ghost_name }
+    {
+        // By index: after a slice's `get_mut` nothing is known of its elements.
+        if self.count == self.slots.len() {
+            return Err(InsertError::Full);
+        }
+        self.slots[self.count] = value;
+        self.count += 1;
+        Ok(())
+    }
+
     // Gives `handle`, which has to be the next one, its value. Where it refuses, nothing is written.
     pub fn insert(&mut self, handle: Handle, value: U) -> Result<(), InsertError>
         ensures cases { Inserted handle value self.old self.new result }
@@ -72,12 +86,6 @@ impl<'a, U: Copy> HandleVec<'a, U> {
         if handle as usize != self.count {
             return Err(InsertError::WrongHandle);
         }
-        // By index: after a slice's `get_mut` nothing is known of its elements.
-        if self.count == self.slots.len() {
-            return Err(InsertError::Full);
-        }
-        self.slots[self.count] = value;
-        self.count += 1;
-        Ok(())
+        self.push(value)
     }
 }

@@ -1,0 +1,4 @@
+pub mod Growing
+pub mod Standing
+pub mod Operators
+pub mod Tracking

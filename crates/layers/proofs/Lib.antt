@@ -1,0 +1,3 @@
+mod Seeing
+mod Likes
+mod Examples

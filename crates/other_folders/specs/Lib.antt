@@ -1,0 +1,3 @@
+pub mod Others
+pub mod Traps
+pub mod Paddings

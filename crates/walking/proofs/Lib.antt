@@ -1,0 +1,9 @@
+mod Lefts
+pub mod Extending
+pub mod Holding
+pub mod Steps
+pub mod Settling
+pub mod Mapped
+pub mod WholeWalk
+pub mod Accepting
+pub mod ModuleKeeps

@@ -1,0 +1,9 @@
+pub mod States
+pub mod Images
+pub mod Overrides
+pub mod Walks
+pub mod Works
+pub mod Fulls
+pub mod Laws
+pub mod Accepted
+pub mod Modules

@@ -1,0 +1,136 @@
+// A whole walk over a module's entries, from empty tables.
+ghost use Rattle.std.specs.Prelude.{◌≡◌, ◌≤◌, List, length, map, MatchOption};
+ghost use Rattle.arena.specs.Items.{items, limit};
+ghost use Rattle.arena.specs.Nodes.{nodes};
+ghost use Rattle.arena.specs.Held.{slots};
+ghost use Rattle.walking.specs.Modules.{Unfit, WalkedAs, begun, finished, room_for, room_of_slices, walk_module, written};
+ghost use Rattle.evaluator.specs.declared.expression_kind.ExpressionKind.{ExpressionKind as Kind};
+ghost use Rattle.walking.specs.Works.{Went};
+
+use crate::overrides::Valued;
+use crate::work::Work;
+use arena::{Arena, Entry, Handle, HandleVec, Table};
+use evaluator::{ExpressionKind, ExpressionKindTracker, Folder, NewConstant};
+use refusals::Refusal;
+
+// What a walk reads of a module.
+#[derive(Clone, Copy)]
+pub struct Old<'a> {
+    pub entries: &'a [Entry],
+    pub operands: &'a [Handle],
+    pub overrides: &'a [Valued],
+}
+
+// How a walk ended, and how many images and overrides' constants it has written.
+#[derive(Clone, Copy, PartialEq, Eq, Debug)]
+pub struct Walked {
+    pub ended: Result<(), Refusal>,
+    pub images: usize,
+    pub settled: usize,
+}
+
+// The same over values kept by handle, all of them lent at once.
+fn walk_lent<F: Folder>(
+    folder: &F,
+    old: Old<'_>,
+    scratch: &mut Table<Handle>,
+    expressions: &mut Arena,
+    kinds: &mut ExpressionKindTracker<'_>,
+    constants: &mut Table<NewConstant>,
+    images: &mut HandleVec<'_, Handle>,
+    settled: &mut HandleVec<'_, u32>,
+) -> Result<(), Refusal>
+    requires wide { length old.operands.now ≤ limit scratch.old }
+    requires small { (length (slots images.old) ≤ 4294967295) × (limit constants.old ≤ 4294967295) }
+    ensures went { Went (walk_module (F.verdict folder.now) (room_for expressions.old kinds.old constants.old images.old settled.old)
+        old.entry.overrides.now (nodes old.entry.entries.now old.entry.operands.now)
+        (written expressions.old kinds.old constants.old images.old settled.old))
+        (written expressions.new kinds.new constants.new images.new settled.new) result }
+    ensures lenders { (images.new.slots.ghost_name ≡ images.old.slots.ghost_name) × (settled.new.slots.ghost_name ≡ settled.old.slots.ghost_name) }
+{
+    let mut work = Work {
+        entries: old.entries,
+        operands: old.operands,
+        scratch,
+        expressions,
+        kinds,
+        constants,
+        images,
+        settled,
+    };
+    work.walk_module(folder, old.overrides)
+}
+
+// A walk that begins with nothing written. Of the kinds nothing is said afterwards.
+fn walk_slices<F: Folder>(
+    folder: &F,
+    old: Old<'_>,
+    scratch: &mut Table<Handle>,
+    expressions: &mut Arena,
+    kinds: &mut [ExpressionKind],
+    constants: &mut Table<NewConstant>,
+    images: &mut [Handle],
+    settled: &mut [u32],
+) -> Walked
+    requires wide { length old.operands.now ≤ limit scratch.old }
+    requires small { (length images.old ≤ 4294967295) × (limit constants.old ≤ 4294967295) }
+    ensures went { (ks : List Kind) × Went (walk_module (F.verdict folder.now) (room_of_slices expressions.old kinds.old constants.old images.old settled.old)
+        old.entry.overrides.now (nodes old.entry.entries.now old.entry.operands.now) (begun (items constants.old)))
+        (finished expressions.new ks constants.new images.new settled.new result) result.ended }
+{
+    expressions.clear();
+    let mut kinds = ExpressionKindTracker::new(kinds);
+    let mut images = HandleVec::new(images);
+    let mut settled = HandleVec::new(settled);
+    let ended = walk_lent(
+        folder,
+        old,
+        scratch,
+        expressions,
+        &mut kinds,
+        constants,
+        &mut images,
+        &mut settled,
+    );
+    Walked {
+        ended,
+        images: images.len(),
+        settled: settled.len(),
+    }
+}
+
+// A walk over a module's entries, whatever the tables held before. None where `scratch` cannot hold so many operands, or where images or
+// constants would have no number. What is left in `kinds` is of no use afterwards.
+pub fn walk_entries<F: Folder>(
+    folder: &F,
+    old: Old<'_>,
+    scratch: &mut Table<Handle>,
+    expressions: &mut Arena,
+    kinds: &mut [ExpressionKind],
+    constants: &mut Table<NewConstant>,
+    images: &mut [Handle],
+    settled: &mut [u32],
+) -> Option<Walked>
+    ensures { MatchOption result (Unfit old.entry scratch.old constants.old images.old) (λ w. (ks : List Kind) × WalkedAs (F.verdict folder.now)
+        (room_of_slices expressions.old kinds.old constants.old images.old settled.old)
+        (record { entries = nodes old.entry.entries.now old.entry.operands.now; inits = map (λ c. c.init) (items constants.old); overrides = old.entry.overrides.now })
+        (items constants.old) (finished expressions.new ks constants.new images.new settled.new w) w.ended) }
+{
+    let numbers = u32::MAX as usize;
+    let fits = old.operands.len() <= scratch.limit()
+        && images.len() <= numbers
+        && constants.limit() <= numbers;
+    if !fits {
+        return None;
+    }
+    Some(walk_slices(
+        folder,
+        old,
+        scratch,
+        expressions,
+        kinds,
+        constants,
+        images,
+        settled,
+    ))
+}

@@ -1,7 +1,6 @@
 -- From a walk in reserved memory to what is folded.
-use Rattle.std.proofs.Common.{◌≡◌, ℕ, List, [], ◌∷◌, length, map, take, false, vec_items, refl, sym, ap, ◌∙◌, subst, Some, Ok, Err, Result}
-use Rattle.arena.specs.Appends.{nodes_of, entry_limit, operand_limit}
-use Rattle.arena.specs.Items.{items, limit}
+use Rattle.std.proofs.Common.{◌≡◌, ℕ, List, [], ◌∷◌, map, take, false, vec_items, refl, sym, ap, ◌∙◌, subst, Some, Ok, Err, Result}
+use Rattle.arena.specs.Items.{items}
 use Rattle.arena.specs.Nodes.{nodes}
 use Rattle.arena.specs.declared.entry.Entry.{Entry}
 use Rattle.walking.specs.declared.overrides.Valued.{Valued}
@@ -12,16 +11,15 @@ use Rattle.ir.specs.declared.tables.Source.{Source}
 use Rattle.evaluator.specs.declared.expression_kind.ExpressionKind.{ExpressionKind}
 use Rattle.evaluator.specs.declared.tables.NewConstant.{NewConstant}
 use Rattle.evaluator.specs.Verdicts.{Meaning}
-use Rattle.walking.specs.States.{Room, State, Outcome, goes, stops}
+use Rattle.walking.specs.States.{State, Outcome, goes, stops}
 use Rattle.walking.specs.Works.{Went}
-use Rattle.walking.specs.Laws.{Old, CheckedOld, KeepsTrees}
-use Rattle.walking.specs.Modules.{WalkedAs, Begins, begun, finished, room_of_slices, walk_module}
+use Rattle.walking.specs.Laws.{Old, KeepsTrees}
+use Rattle.walking.specs.Modules.{WalkedAs, finished, room_of_slices}
 use Rattle.walking.specs.declared.modules.Old.{Old as Read}
 use Rattle.walking.specs.declared.modules.Walked.{Walked as Walk}
 use Rattle.folding.specs.declared.folds.Folded.{Folded}
 use Rattle.folding.specs.declared.folds.Memory.{Memory}
 use Rattle.folding.specs.declared.folds.FoldError.{FoldError}
-use Rattle.folding.specs.declared.folds.FoldError.TheVariants.{Refused}
 use Rattle.folding.specs.Folds.{unmapped, room_of, old_of, folding, state_of, FoldedBy, Reserved, WalkedIn, FinishedAs, Finished}
 
 stops_of : (o : Outcome) (s : State) (e : Refusal) → Went {A = Unit {0}} o s (Err e) →
@@ -72,8 +70,7 @@ module _ (f : Meaning) (s : Source) (old : Read) (a : Memory) (es : old.entries.
       WalkedAs f (room_of s) (old_of s) (unmapped (vec_items s.constants)) (finished b.expressions ls b.constants (vec_items b.images) ss w) e →
       FinishedAs b w e x → FoldedBy f s x
   by_cases b w (Ok u) (Ok g) ls ss k n =
-      let same : state_of g ls (take w.settled ss) ≡ finished b.expressions ls b.constants (vec_items b.images) ss w = rw (n.0, n.1, n.2) refl in
-      (
+      let same : state_of g ls (take w.settled ss) ≡ finished b.expressions ls b.constants (vec_items b.images) ss w = rw (n.0, n.1, n.2) refl in (
         ls,
         take w.settled ss,
         goes_of (folding f s) (finished b.expressions ls b.constants (vec_items b.images) ss w) u k.went ∙ ap goes (sym same),

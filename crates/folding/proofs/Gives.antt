@@ -1,5 +1,5 @@
 -- What is folded of tables that the check accepts.
-use Rattle.std.proofs.Common.{◌≡◌, ℕ, List, [], length, vec_items, refl, sym, ap, subst, Ok, Err, Some, None, Result, inr}
+use Rattle.std.proofs.Common.{◌≡◌, List, [], length, vec_items, sym, ap, Ok, Err, Result, inr}
 use Rattle.std.specs.List.{slice_get}
 use Rattle.std.specs.Option.{option_and_then}
 use Rattle.std.proofs.lemmas.Option.{none-some}
@@ -8,13 +8,12 @@ use Rattle.ir.specs.declared.tables.Source.{Source}
 use Rattle.ir.specs.declared.tables.Sizes.{Sizes}
 use Rattle.ir.specs.Tables.{global}
 use Rattle.evaluator.specs.Verdicts.{Meaning}
-use Rattle.walking.specs.Laws.{CheckedOld}
-use Rattle.walking.specs.Accepted.{Accepted, ValuesOf, old_of_global}
+use Rattle.walking.specs.Accepted.{Accepted, ValuesOf}
 use Rattle.walking.proofs.Accepting.{accepted_is_checked}
 use Rattle.folding.specs.declared.folds.Folded.{Folded}
 use Rattle.folding.specs.declared.folds.FoldError.{FoldError}
 use Rattle.folding.specs.declared.folds.FoldError.TheVariants.{Refused, HasOverrides, OutOfMemory}
-use Rattle.folding.specs.Folds.{FoldedBy, Gave, old_of}
+use Rattle.folding.specs.Folds.{FoldedBy, Gave}
 
 no_values : (s : Source) (z : Sizes) → vec_items s.overrides ≡ [] → ValuesOf (global s z) []
 no_values s z e =

@@ -28,7 +28,7 @@ use Rattle.arena.specs.declared.arena.Arena.{Arena}
 use Rattle.arena.specs.declared.table.Table.{Table}
 use Rattle.arena.specs.Items.{limit}
 use Rattle.arena.specs.Appends.{entry_limit, operand_limit}
-use Rattle.std.specs.Prelude.{Option, vec_len, MatchOption, take}
+use Rattle.std.specs.Prelude.{Option, MatchOption, take}
 
 -- constants that are not yet mapped
 abbrev pub unmapped : List Constant → List NewConstant
@@ -106,8 +106,8 @@ abbrev pub WalkedBy : Meaning → Read → Table ℕ → Arena → List Expressi
 WalkedBy f old scratch a ks cs is b ds js r =
     MatchOption r (Unfit old scratch cs is)
     (λ w. (ls : List ExpressionKind) × (ss : List ℕ) × WalkedAs f (room_of_slices a ks cs is [])
-      (record { entries = nodes old.entries.now old.operands.now; inits = map (λ (c : NewConstant). c.init) (items cs); overrides = old.overrides.now })
-      (items cs) (finished b ls ds js ss w) w.ended)
+    (record { entries = nodes old.entries.now old.operands.now; inits = map (λ (c : NewConstant). c.init) (items cs); overrides = old.overrides.now })
+    (items cs) (finished b ls ds js ss w) w.ended)
 
 -- the same in memory a, which it leaves as b
 abbrev pub WalkedIn : Meaning → Read → Memory → Memory → Option Walk → Type 0

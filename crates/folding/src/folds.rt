@@ -14,6 +14,7 @@ use walking::{Old, Walked, walk_entries};
 
 // The most entries, and the most operands, that a table holds.
 const ENTRIES: u32 = 65536;
+
 const OPERANDS: u32 = 262144;
 
 // The finished entries with their constants, and the handle that each old entry became.

@@ -2,8 +2,11 @@
 use crate::failures::Failure;
 use crate::files::{load, load_text, on_file, store};
 use crate::help::HELP;
+use fold_report::{Pile, report_folds};
 use inspection::{report_listing, rewrite_listing};
 use report::{ReportError, TextError, pack, report_literals, unpack};
+use settings::read_decimal;
+use std::alloc::Global;
 use std::env;
 
 // How a report ends in which so many things are refused.
@@ -62,6 +65,32 @@ fn run_print(rt: &HostRuntime, listing: &str) -> Result<(), Failure> {
     Ok(())
 }
 
+// The words after a fold's listing: a pile, and the expressions whose trees are shown.
+fn read_options(heap: Global, words: &[&str]) -> Result<(Pile, Vec<u32>), Failure> {
+    let mut pile = Pile::KeepWholeFind;
+    let mut trees = Vec::new(heap);
+    let mut options = words.iter();
+    while let Some(option) = options.next() {
+        let value = options.next().ok_or(Failure::Usage)?;
+        match *option {
+            "--pile" => pile = Pile::named(value).ok_or(Failure::Usage)?,
+            "--tree" => trees.push(read_decimal(value).ok_or(Failure::Usage)?)?,
+            _ => return Err(Failure::Usage),
+        }
+    }
+    Ok((pile, trees))
+}
+
+fn run_fold(rt: &HostRuntime, listing: &str, options: &[&str]) -> Result<(), Failure> {
+    let heap = rt.alloc();
+    let (pile, trees) = read_options(heap, options)?;
+    let text = load_text(rt, listing)?;
+    let report = report_folds(heap, text.as_str(), pile, trees.as_slice());
+    let report = on_file(heap, listing, report)?;
+    rt.print(report.as_str())?;
+    Ok(())
+}
+
 fn run_help(rt: &HostRuntime) -> Result<(), Failure> {
     rt.print(HELP)?;
     Ok(())
@@ -78,6 +107,7 @@ pub(crate) fn run(rt: &HostRuntime) -> Result<(), Failure> {
         ["unpack", settings] => run_unpack(rt, settings),
         ["check", listing] => run_check(rt, listing),
         ["print", listing] => run_print(rt, listing),
+        ["fold", listing, options @ ..] => run_fold(rt, listing, options),
         ["help"] => run_help(rt),
         _ => Err(Failure::Usage),
     }

@@ -1,4 +1,5 @@
 // Why the program ends with status 1.
+use fold_report::FoldReportError;
 use inspection::InspectionError;
 use report::ReportError;
 use std::alloc::AllocError;
@@ -16,6 +17,8 @@ pub enum FileError {
     Content(#[from] ReportError),
     #[error(transparent)]
     Listing(#[from] InspectionError),
+    #[error(transparent)]
+    Fold(#[from] FoldReportError),
 }
 
 #[derive(Debug, Drop, Error)]

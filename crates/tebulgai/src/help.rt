@@ -7,6 +7,8 @@ pub const HELP: &str = "tebulgai: values for the overrides of a shader module
   tebulgai unpack SETTINGS               print a settings file as a text that pack takes
   tebulgai check LISTING                 whether the tables of a shader are well formed, and what they hold
   tebulgai print LISTING                 print a listing as it is written, with the index of each item
+  tebulgai fold LISTING [--pile PILE] [--tree N]..
+                                         what each expression of a module without overrides becomes
   tebulgai help                          print this
 
 A text of settings has a line `key = value` for each. A key is what stands before the first =,
@@ -15,6 +17,7 @@ A text of overrides has a line `id name scalar init` for each, with - for no id,
 A scalar is bool, i16, u16, i32, u32, f16, f32 or f64, or as sint8 another kind and width in bytes.
 An init is `init N`, where N is the handle of an expression.
 Blank lines and lines that begin with # are skipped.
+A pile is keep, keep,whole or keep,find, or keep,whole,find (if none is given) or keep,find,whole.
 
 Refusals: 1 malformed file, 2 repeated key, 6 key that no override takes, 7 neither id nor name,
 8 no value and no init, 9 value not finite, 10 value does not fit, 11 no literal of that scalar.

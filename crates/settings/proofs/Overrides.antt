@@ -1,31 +1,31 @@
 -- Which keys an override takes.
-use Rattle.std.proofs.Common.{◌≡◌, ℕ, ◌≤◌, eqb, List, Some, None, decimal, Decides, Option, sym, ap, ◌∙◌, arith, Bor}
+use Rattle.std.proofs.Common.{◌≡◌, ℕ, ◌≤◌, eqb, List, Some, None, decimal, Decides, Option, sym, ap, ◌∙◌, arith}
 use Rattle.std.proofs.lemmas.Fmt.{decimal_injective}
 use Rattle.std.proofs.lemmas.Bool.Decides.{Decides-eqb, Decides-like}
 use Rattle.settings.specs.First.{Least, Holds}
 use Rattle.settings.specs.Layout.{Distinct}
-use Rattle.settings.specs.Keys.{TakenBy, Takes}
+use Rattle.settings.specs.Keys.{TakenBy, Takes, name_of}
 use Rattle.settings.specs.Reading.{Only}
 use Rattle.settings.proofs.Places.{same_place}
 use Rattle.settings.specs.declared.naming.Identifier.{Identifier}
 
 -- the keys that one override takes are equal
-taken_same : (o : Option ℕ) (s : Option (Bor (List ℕ))) (a b : List ℕ) → TakenBy o s a → TakenBy o s b → a ≡ b
+taken_same : (o : Option ℕ) (s : Option (List ℕ)) (a b : List ℕ) → TakenBy o s a → TakenBy o s b → a ≡ b
 taken_same (Some n) s a b p q = p ∙ sym q
 taken_same None (Some s) a b p q = sym p ∙ q
 taken_same None None a b p q = absurd p
 
 pub takes_same : (w : Identifier) (a b : List ℕ) → Takes w a → Takes w b → a ≡ b
-takes_same w a b = taken_same w.id w.name a b
+takes_same w a b = taken_same w.id (name_of w) a b
 
-by_id : (o : Option ℕ) (s : Option (Bor (List ℕ))) (m n : ℕ) (bs : List ℕ) → o ≡ Some m → m ≤ 65535 → (n ≤ 65535) × (bs ≡ decimal n) → Decides (eqb n m) (TakenBy o s bs)
+by_id : (o : Option ℕ) (s : Option (List ℕ)) (m n : ℕ) (bs : List ℕ) → o ≡ Some m → m ≤ 65535 → (n ≤ 65535) × (bs ≡ decimal n) → Decides (eqb n m) (TakenBy o s bs)
 by_id None s m n bs e l h = absurd (cc)
 by_id (Some k) s m n bs e l h =
     let q : k ≡ m = cc in
     Decides-like (eqb n m) (λ p. h.1 ∙ ap decimal (p ∙ sym q)) (λ t. decimal_injective n m (omega (arith, h.0)) (omega arith) (sym h.1 ∙ t ∙ ap decimal q)) (Decides-eqb n m)
 
 pub takes_by_id : (w : Identifier) (m n : ℕ) (bs : List ℕ) → w.id ≡ Some m → m ≤ 65535 → (n ≤ 65535) × (bs ≡ decimal n) → Decides (eqb n m) (Takes w bs)
-takes_by_id w m n bs = by_id w.id w.name m n bs
+takes_by_id w m n bs = by_id w.id (name_of w) m n bs
 
 -- of distinct keys, the first that an override takes is the only one
 pub only_taker : (w : Identifier) (ks : List (List ℕ)) (r : Option ℕ) → Least (Holds (Takes w) ks) r → Distinct ks → Only (Holds (Takes w) ks) r

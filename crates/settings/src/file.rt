@@ -60,7 +60,7 @@ impl<'f> Settings<'f> {
     }
 
     // The keys, in order.
-    fn keys(&self) -> Keys<'f>
+    pub fn keys(&self) -> Keys<'f>
         ensures { keys_left result ≡ (given self.now).keys }
     {
         self.keys

@@ -9,7 +9,7 @@ use crate::writing::Setting;
 
 // The keys of a settings file, one after the other.
 #[derive(Clone, Copy)]
-pub(crate) struct Keys<'f> {
+pub struct Keys<'f> {
     pub(crate) lengths: &'f [u8],
     pub(crate) bytes: &'f [u8],
 }

@@ -22,5 +22,6 @@ pub use decimals::{Decimal, read_decimal};
 pub use error::SettingsError;
 pub use file::Settings;
 pub use iter::Iter;
+pub use keys::Keys;
 pub use naming::{Identifier, Key, is_taken, read_key, takes};
 pub use writing::{Setting, WriteError, write};

@@ -1,0 +1,4 @@
+pub mod Keys
+pub mod Settling
+pub mod Values
+pub mod Standing

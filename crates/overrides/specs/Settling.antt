@@ -51,8 +51,7 @@ refusal_of (Errors.NotFound k) = NotFound k
 
 -- 6 at a key that no override takes
 abbrev pub KeyFaults : List ℕ → List Override → List (List ℕ) → Refusal → Type 0
-KeyFaults names os ks (NotFound k) = Untaken names os ks k
-KeyFaults names os ks _ = ⊥
+KeyFaults names os ks r = (k : ℕ) × (r ≡ NotFound k) × Untaken names os ks k
 
 -- the first key that no override takes, if there is one
 abbrev pub CheckedKeys : List ℕ → List Override → List (List ℕ) → Result (Unit {0}) Refusal → Type 0

@@ -17,7 +17,6 @@ pub use values::value_overrides;
 
 // What a walk can rely on: the tables are accepted, the overrides with their values are those of the module and hold well-formed
 // literals, and there is one list of values.
-#[tactic(auto, using(crate::proofs::Standing::settling_accepts))]
 pub fn values_stand()
     ensures accepted { SettlingAccepts }
     ensures values { ValuedIsValues }

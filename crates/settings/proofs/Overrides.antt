@@ -15,9 +15,6 @@ taken_same (Some n) s a b p q = p ∙ sym q
 taken_same None (Some s) a b p q = sym p ∙ q
 taken_same None None a b p q = absurd p
 
-pub takes_same : (w : Identifier) (a b : List ℕ) → Takes w a → Takes w b → a ≡ b
-takes_same w a b = taken_same w.id (name_of w) a b
-
 by_id : (o : Option ℕ) (s : Option (List ℕ)) (m n : ℕ) (bs : List ℕ) → o ≡ Some m → m ≤ 65535 → (n ≤ 65535) × (bs ≡ decimal n) → Decides (eqb n m) (TakenBy o s bs)
 by_id None s m n bs e l h = absurd (cc)
 by_id (Some k) s m n bs e l h =
@@ -27,8 +24,11 @@ by_id (Some k) s m n bs e l h =
 pub takes_by_id : (w : Identifier) (m n : ℕ) (bs : List ℕ) → w.id ≡ Some m → m ≤ 65535 → (n ≤ 65535) × (bs ≡ decimal n) → Decides (eqb n m) (Takes w bs)
 takes_by_id w m n bs = by_id w.id (name_of w) m n bs
 
--- of distinct keys, the first that an override takes is the only one
+-- of distinct keys, the first that is taken by an id or a name is the only one
+pub only_taken : (o : Option ℕ) (s : Option (List ℕ)) (ks : List (List ℕ)) (r : Option ℕ) → Least (Holds (TakenBy o s) ks) r → Distinct ks → Only (Holds (TakenBy o s) ks) r
+only_taken o s ks None h d = h
+only_taken o s ks (Some i) h d =
+    (h.0, λ j t. same_place ks j i h.0.0 d (t.1 ∙ ap Some (taken_same o s t.0 h.0.0 t.2 h.0.2)) h.0.1)
+
 pub only_taker : (w : Identifier) (ks : List (List ℕ)) (r : Option ℕ) → Least (Holds (Takes w) ks) r → Distinct ks → Only (Holds (Takes w) ks) r
-only_taker w ks None h d = h
-only_taker w ks (Some i) h d =
-    (h.0, λ j t. same_place ks j i h.0.0 d (t.1 ∙ ap Some (takes_same w t.0 h.0.0 t.2 h.0.2)) h.0.1)
+only_taker w = only_taken w.id (name_of w)

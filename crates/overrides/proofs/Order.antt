@@ -119,7 +119,7 @@ module _ (file : List ℕ) (m : Global) where
         applies = inl (g, e, h.0);
         first = λ r l a. elim a [
           | inl f ↦ of_file file m (λ q. Earlier q (RepeatedKey k) → ⊥) (λ u l. u g e.valid e.is)
-            (λ j i d at l. h.1 j (less_one j k (same l)) (subst (λ (x : Given). Repeats x.keys j) (one g i e d) at)) (λ j i d at l. later (lit< tt) l) r f l
+              (λ j i d at l. h.1 j (less_one j k (same l)) (subst (λ (x : Given). Repeats x.keys j) (one g i e d) at)) (λ j i d at l. later (lit< tt) l) r f l
           | inr t ↦ none_before_3 (code_of r).0 _ (from_3 r t) l
         ];
       }

@@ -80,7 +80,7 @@ module _ (g : Given) (names : List ℕ) (os : List Override) (vs : List Valued) 
   literals p l e = elim (beside p) [
     | inl n ↦ absurd (none-some l (subst (λ (o : Option Valued). option_and_then (λ (v : Valued). literal_if v.given) o ≡ Some l) n.1 e))
     | inr b ↦ literal_fine b.1.given l (converted_fine g b.4.given.key b.0.scalar b.4.value b.1.given b.4.given.value b.4.converted)
-      (subst (λ (o : Option Valued). option_and_then (λ (v : Valued). literal_if v.given) o ≡ Some l) b.3 e)
+        (subst (λ (o : Option Valued). option_and_then (λ (v : Valued). literal_if v.given) o ≡ Some l) b.3 e)
   ]
 
 pub valued_is_values : ValuedIsValues

@@ -32,7 +32,9 @@ pub(crate) fn identifier<'n>(item: &Override, names: &'n [u8]) -> Identifier<'n>
 fn is_taken(key: &[u8], overrides: &[Override], names: &[u8]) -> bool
     ensures { Decides result (SomeTakes names.now overrides.now key.now) }
 {
-    overrides.iter().any(|item| takes(identifier(item, names), key))
+    overrides
+        .iter()
+        .any(|item| takes(identifier(item, names), key))
 }
 
 // The index of the first key that no override takes. Each key is held against the overrides from the first: a map of them would
@@ -44,5 +46,7 @@ pub(crate) fn first_untaken(
 ) -> Option<usize>
     ensures { Least (Untaken names.now overrides.now (given settings.now).keys) result }
 {
-    settings.keys().position(|key| !is_taken(key, overrides, names))
+    settings
+        .keys()
+        .position(|key| !is_taken(key, overrides, names))
 }

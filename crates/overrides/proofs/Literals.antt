@@ -1,5 +1,5 @@
 -- A literal that a value becomes holds the bits of its type.
-use Rattle.std.proofs.Common.{◌≡◌, ℕ, ◌+◌, ◌-◌, ◌*◌, ◌^◌, ◌<◌, ◌≤◌, Bool, true, false, cond, ◌&&◌, T, eqb, ltb, ℤ, pos, negsuc, nat_abs, Ok, Err, refl, sym, subst, arith}
+use Rattle.std.proofs.Common.{◌≡◌, ℕ, ◌+◌, ◌-◌, ◌^◌, ◌<◌, ◌≤◌, Bool, true, false, cond, ◌&&◌, T, eqb, ltb, ℤ, pos, negsuc, nat_abs, Ok, Err, refl, sym, subst, arith}
 use lib.Signed.{le_z}
 use lib.Ieee as Ieee
 use lib.Ieee.Bits.{to_bits-lt}
@@ -13,7 +13,7 @@ use Rattle.rounding.specs.declared.literals.Literal.TheVariants as Literals
 use Rattle.rounding.specs.Formats.{Format, half, single, infinity, sign_bit_of}
 use Rattle.rounding.specs.Doubles.{whole, truth}
 use Rattle.rounding.specs.Literals.{type_of, literal_bits_of}
-use Rattle.rounding.specs.Conversion.{Answer, Refused, Finite, Whole, Rounds, OfKind, Becomes}
+use Rattle.rounding.specs.Conversion.{Answer, Refused, Whole, Rounds, OfKind, Becomes}
 use Rattle.ir.specs.Faults.{malformed}
 
 abbrev Fine : Literal → Type 0

@@ -1,5 +1,5 @@
 -- Settings give one list of values.
-use Rattle.std.proofs.Common.{◌≡◌, ℕ, zero, suc, ◌<◌, ◌≤◌, List, [], ◌∷◌, length, Some, None, Option, refl, sym, ap, ◌∙◌, subst, inl, inr, ⊎_elim, arith}
+use Rattle.std.proofs.Common.{◌≡◌, ℕ, suc, ◌<◌, ◌≤◌, List, [], ◌∷◌, length, Some, None, Option, refl, sym, ap, ◌∙◌, subst, inl, inr, ⊎_elim, arith}
 use Rattle.std.specs.Float.Ieee as Ieee
 use Rattle.std.specs.List.{slice_get}
 use Rattle.std.proofs.lemmas.Bool.{cases_lt}
@@ -9,12 +9,11 @@ use Rattle.settings.specs.Layout.{Given}
 use Rattle.settings.specs.Reading.{value_at}
 use Rattle.rounding.specs.declared.scalars.Scalar.{Scalar}
 use Rattle.rounding.specs.declared.literals.Literal.{Literal}
-use Rattle.rounding.specs.Conversion.{Answer, Becomes}
+use Rattle.rounding.specs.Conversion.{Answer}
 use Rattle.rounding.proofs.Pinning.{pinned}
 use Rattle.ir.specs.declared.tables.Override.{Override}
 use Rattle.walking.specs.declared.overrides.Valued.{Valued}
-use Rattle.overrides.specs.Keys.{TakesKey}
-use Rattle.overrides.specs.Values.{ConvertedIf, GivenTo, ValuedAs, ValuedFor}
+use Rattle.overrides.specs.Values.{ConvertedIf, GivenTo, ValuedAs}
 use Rattle.overrides.specs.Standing.{ValuedOnce}
 
 least_once : (P : ℕ → Type 0) (a b : Option ℕ) → Least P a → Least P b → b ≡ a

@@ -1,5 +1,5 @@
 -- Which of the refusals that apply comes first.
-use Rattle.std.proofs.Common.{◌≡◌, ℕ, ◌<◌, ◌≤◌, ◌⊎◌, List, [], ◌∷◌, Some, None, Ok, Err, Option, Result, MatchResult, refl, sym, ap, ◌∙◌, subst, inl, inr, arith, lit<, lit≤}
+use Rattle.std.proofs.Common.{◌≡◌, ℕ, ◌<◌, ◌≤◌, ◌⊎◌, List, [], ◌∷◌, Some, None, Ok, Err, Result, MatchResult, refl, sym, ap, subst, inl, inr, arith, lit<, lit≤}
 use Rattle.refusals.specs.declared.Refusal.{Refusal}
 use Rattle.refusals.specs.declared.Refusal.TheVariants.{MalformedSettings, RepeatedKey, NotFound, Nameless}
 use Rattle.refusals.specs.Codes.{code_of, Less, Earlier, FirstOf}

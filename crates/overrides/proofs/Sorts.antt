@@ -1,5 +1,5 @@
 -- Of which sorts are the refusals that apply.
-use Rattle.std.proofs.Common.{◌≡◌, ℕ, List}
+use Rattle.std.proofs.Common.{ℕ, List}
 use Rattle.places.specs.declared.Place.{Place}
 use Rattle.places.specs.First.{At}
 use Rattle.refusals.specs.declared.Refusal.{Refusal}

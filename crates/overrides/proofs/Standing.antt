@@ -1,22 +1,24 @@
 -- What a walk can rely on.
-use Rattle.std.proofs.Common.{◌≡◌, ℕ, ◌<◌, ◌≤◌, ◌⊎◌, T, false, List, length, Some, None, Ok, Err, Option, option_and_then, refl, sym, ap, ◌∙◌, subst, inl, inr, arith}
+use Rattle.std.proofs.Common.{◌≡◌, ℕ, ◌<◌, ◌≤◌, ◌⊎◌, T, false, List, length, get_or, Some, None, Ok, Err, Option, option_and_then, refl, sym, ◌∙◌, subst, inl, inr, arith}
 use lib.Ieee as Ieee
 use lib.Ieee.Bits.{of_bits-fits}
 use Rattle.std.specs.List.{slice_get}
 use Rattle.std.specs.Option.{option_map}
 use Rattle.std.proofs.lemmas.Option.{slice_get_cases, slice_get_within, none-some, same_Some}
-use Rattle.settings.specs.Layout.{Given}
+use Rattle.settings.specs.First.{Least, Holds}
+use Rattle.settings.specs.Layout.{Given, Valid}
 use Rattle.settings.specs.Reading.{value_at}
 use Rattle.rounding.specs.declared.scalars.Scalar.{Scalar}
 use Rattle.rounding.specs.declared.literals.Literal.{Literal}
 use Rattle.rounding.specs.Literals.{type_of, literal_bits_of}
-use Rattle.rounding.specs.Conversion.{Answer, Becomes}
+use Rattle.rounding.specs.Conversion.{Answer}
 use Rattle.ir.specs.Faults.{malformed}
 use Rattle.ir.specs.declared.tables.Override.{Override}
 use Rattle.walking.specs.declared.overrides.Valued.{Valued}
 use Rattle.walking.specs.Laws.{literal_if, given_at, init_at}
+use Rattle.overrides.specs.Keys.{TakesKey}
 use Rattle.overrides.specs.Values.{ConvertedIf, ValuedAs, ValuedFor}
-use Rattle.overrides.specs.Standing.{SettlingAccepts, ValuedIsValues}
+use Rattle.overrides.specs.Standing.{NoneWithoutKey, SettlingAccepts, ValuedIsValues}
 use Rattle.overrides.proofs.Literals.{FineIf, becomes_fine}
 
 pub settling_accepts : SettlingAccepts
@@ -85,3 +87,30 @@ module _ (g : Given) (names : List ℕ) (os : List Override) (vs : List Valued) 
 
 pub valued_is_values : ValuedIsValues
 valued_is_values g m vs h = record { every = h.every; inits = inits g m.names m.overrides vs h; given = literals g m.names m.overrides vs h }
+
+-- ---- without a value
+
+-- beside each key there is a value
+value_there : (g : Given) (i : ℕ) → Valid g → i < length g.keys → value_at g (Some i) ≡ None → ⊥
+value_there g i valid l = go (slice_get g.values i) (slice_get_cases g.values i).1
+  where
+    far : (n m : ℕ) → n ≡ m → i < m → n ≤ i → ⊥
+    far n m e l k = omega (arith, e, l, k)
+
+    go : (o : Option ℕ) → ((y : ℕ) × (i < length g.values) × (o ≡ Some y) × (get_or g.values i y ≡ y)) ⊎ ((length g.values ≤ i) × (o ≡ None)) →
+        option_map (Ieee.of_bits Ieee.binary64) o ≡ None → ⊥
+    go (Some n) c e = none-some _ (sym e)
+    go None (inl c) e = none-some c.0 c.2
+    go None (inr c) e = far (length g.values) (length g.keys) valid.paired l c.0
+
+given_none : (scalar : Scalar) (x : Option Ieee.Float) (r : Option (Answer Literal)) → ConvertedIf scalar x r → r ≡ None → x ≡ None
+given_none scalar None r c e = refl
+given_none scalar (Some x) r c e = absurd (none-some c.0 (sym e ∙ c.1))
+
+untaken : (g : Given) (P : List ℕ → Type 0) (k : Option ℕ) → Valid g → Least (Holds P g.keys) k → value_at g k ≡ None → (i : ℕ) → Holds P g.keys i → ⊥
+untaken g P None valid h e = h
+untaken g P (Some j) valid h e = absurd (value_there g j valid (slice_get_within g.keys j h.0.0 h.0.1) e)
+
+pub none_without_key : NoneWithoutKey
+none_without_key g names o v valid h e =
+    untaken g (TakesKey names o) h.given.key valid h.given.taken.first (sym h.given.value ∙ given_none o.scalar h.value v.given h.converted e)

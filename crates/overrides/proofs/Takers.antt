@@ -1,5 +1,5 @@
 -- What an override takes is what its identifier takes.
-use Rattle.std.proofs.Common.{◌≡◌, ℕ, List, Option, subst}
+use Rattle.std.proofs.Common.{ℕ, List, Option, subst}
 use Rattle.settings.specs.First.{Least, Holds}
 use Rattle.settings.specs.Keys.{TakenBy, Takes, name_of}
 use Rattle.settings.specs.declared.naming.Identifier.{Identifier}

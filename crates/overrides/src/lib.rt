@@ -4,7 +4,7 @@
 // what is given here.
 #![tactic(auto)]
 
-ghost use Rattle.overrides.specs.Standing.{SettlingAccepts, ValuedIsValues, ValuedOnce};
+ghost use Rattle.overrides.specs.Standing.{NoneWithoutKey, SettlingAccepts, ValuedIsValues, ValuedOnce};
 
 mod keys;
 mod settling;
@@ -16,9 +16,10 @@ pub use settling::check_settling;
 pub use values::value_overrides;
 
 // What a walk can rely on: the tables are accepted, the overrides with their values are those of the module and hold well-formed
-// literals, and there is one list of values.
+// literals, there is one list of values, and only an override that takes no key is without one.
 pub fn values_stand()
     ensures accepted { SettlingAccepts }
     ensures values { ValuedIsValues }
     ensures once { ValuedOnce }
+    ensures none { NoneWithoutKey }
 {}

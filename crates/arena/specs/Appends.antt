@@ -1,8 +1,9 @@
 -- What an `Arena` holds, and what is appended to it.
-use Rattle.std.specs.Prelude.{◌≡◌, ℕ, ◌+◌, ◌<◌, ◌≤◌, List, [], ◌∷◌, ◌++◌, length, Ok, Err, Result}
-use Rattle.arena.specs.Items.{items, limit}
+use Rattle.std.specs.Prelude.{◌≡◌, ℕ, ◌+◌, ◌<◌, ◌≤◌, ◌⊎◌, List, [], ◌∷◌, ◌++◌, length, Ok, Err, Result}
+use Rattle.arena.specs.Items.{items, limit, memory}
 use Rattle.arena.specs.Nodes.{Node, nodes, operand_total}
 use Rattle.arena.specs.declared.entry.Entry.{Entry}
+use Rattle.arena.specs.declared.table.Table.{Table}
 use Rattle.arena.specs.declared.arena.Arena.{Arena}
 use Rattle.arena.specs.declared.arena.FullTable.{FullTable}
 use Rattle.arena.specs.declared.arena.FullTable.TheVariants.{Entries, Operands}
@@ -47,3 +48,16 @@ pub record Took (n : Node) (h : ℕ) (a b : Arena) : Type 0 where
 abbrev pub Appended : Node → Arena → Arena → Result ℕ FullTable → Type 0
 Appended n a b (Ok h) = Took n h a b
 Appended n a b (Err t) = NoRoomFor n a t × (b ≡ a)
+
+-- a table of these two may hold more than a handle can number
+abbrev pub TooLarge : Table Entry → Table ℕ → Type 0
+TooLarge es os = (4294967295 < limit es) ⊎ (4294967295 < limit os)
+
+-- a is an arena with no entry, with the limits and the memory of these two tables
+pub record Over (es : Table Entry) (os : Table ℕ) (a : Arena) : Type 0 where
+  pub nodes : nodes_of a ≡ []
+  pub entries : entry_limit a ≡ limit es
+  pub operands : operand_limit a ≡ limit os
+  pub entry_memory : memory a.entries ≡ memory es
+  pub operand_memory : memory a.operands ≡ memory os
+  pub small : (entry_limit a ≤ 4294967295) × (operand_limit a ≤ 4294967295)

@@ -1,5 +1,5 @@
 // Entries with their operands.
-ghost use Rattle.std.specs.Prelude.{◌≡◌, ◌+◌, ◌≤◌, [], length, IfSome, IfOk};
+ghost use Rattle.std.specs.Prelude.{◌≡◌, ◌+◌, ◌≤◌, [], length, IfSome, IfOk, MatchOption};
 ghost use Rattle.std.specs.List.{slice_get};
 ghost use Rattle.std.specs.Option.{option_map};
 ghost use Rattle.arena.specs.Items.{items as held, limit as bound};
@@ -32,7 +32,7 @@ pub enum FullTable {
 }
 
 impl Arena {
-    ghost use Rattle.arena.specs.Appends.{Appended, SameLimits, entries_of, operands_of, nodes_of, entry_limit, operand_limit};
+    ghost use Rattle.arena.specs.Appends.{Appended, Over, SameLimits, TooLarge, entries_of, operands_of, nodes_of, entry_limit, operand_limit};
 
     // An arena with no entry, which has the memory for all that it may hold.
     pub fn with_limits(heap: Global, entries: u32, operands: u32) -> Result<Arena, AllocError>
@@ -41,6 +41,20 @@ impl Arena {
         let entries = Table::with_limit(heap, entries as usize)?;
         let operands = Table::with_limit(heap, operands as usize)?;
         Ok(Arena { entries, operands })
+    }
+
+    // An arena with no entry, in the memory of two tables, whatever they held. None where a limit is larger than a handle's
+    // largest number.
+    pub fn over(mut entries: Table<Entry>, mut operands: Table<Handle>) -> Option<Arena>
+        ensures { MatchOption result (TooLarge entries operands) (λ a. Over entries operands a) }
+    {
+        let numbers = Handle::MAX as usize;
+        if entries.limit() > numbers || operands.limit() > numbers {
+            return None;
+        }
+        entries.clear();
+        operands.clear();
+        Some(Arena { entries, operands })
     }
 
     // One node more, for the next handle. Where a table has no room, the first such table, and nothing is written. The kind is a
@@ -159,5 +173,21 @@ impl Arena {
     {
         self.entries.clear();
         self.operands.clear();
+    }
+
+    // The entries, and the list that their runs lie in, as tables of their own.
+    pub fn into_tables(self) -> (Table<Entry>, Table<Handle>)
+        ensures entries { held result.0 ≡ entries_of self }
+        ensures operands { held result.1 ≡ operands_of self }
+        ensures limits { (bound result.0 ≡ entry_limit self) × (bound result.1 ≡ operand_limit self) }
+        ensures tiled { Tiled (held result.0) (length (held result.1)) }
+        ensures total { length (held result.1) ≡ operand_total (nodes (held result.0) (held result.1)) }
+    {
+        let Arena {
+            entries,
+            operands,
+            ..
+        } = self;
+        (entries, operands)
     }
 }

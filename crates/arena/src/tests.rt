@@ -90,6 +90,32 @@ fn an_arena_refuses_what_does_not_fit(rt: HostRuntime) -> Result<(), Fail> {
 }
 
 #[test]
+fn an_arena_in_the_memory_of_tables(rt: HostRuntime) -> Result<(), Fail> {
+    let span = Span { start: 1, end: 2 };
+    let entry = Entry {
+        kind: 18,
+        words: [0; 4],
+        run: Run { at: 7, len: 9 },
+        span,
+    };
+    let mut entries = Table::with_limit(rt.alloc(), 2)?;
+    let mut operands = Table::with_limit(rt.alloc(), 3)?;
+    assert!(rt; entries.push_all(&[entry, entry]) == Ok(()));
+    assert!(rt; operands.push_all(&[4, 5]) == Ok(()));
+    let Some(mut arena) = Arena::over(entries, operands) else {
+        return Err(Fail::new("over"));
+    };
+    assert!(rt; arena.len() == 0 && arena.entry_room() == 2 && arena.operand_room() == 3);
+    assert!(rt; arena.append(10, [5, 0, 0, 0], &[0, ABSENT], span) == Ok(0));
+    let (entries, operands) = arena.into_tables();
+    let run = Run { at: 0, len: 2 };
+    assert!(rt; entries.get(0).map(|entry| entry.run) == Some(run));
+    assert!(rt; entries.len() == 1 && entries.limit() == 2 && operands.limit() == 3);
+    assert!(rt; operands.as_slice() == [0, ABSENT].as_slice());
+    Ok(())
+}
+
+#[test]
 fn errors_in_words(rt: HostRuntime) -> Result<(), Fail> {
     let heap = rt.alloc();
     let full = InsertError::Full;

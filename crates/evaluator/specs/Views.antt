@@ -1,12 +1,13 @@
 -- The tables as the program holds them.
 use Rattle.std.specs.Prelude.{◌≡◌, ℕ, List, [], ◌∷◌, ◌++◌, length, Some, None, Ok, Err, Result, option_map}
-use Rattle.arena.specs.Nodes.{Node}
+use Rattle.arena.specs.Nodes.{Node, nodes}
 use Rattle.arena.specs.Appends.{nodes_of, entry_limit, operand_limit}
 use Rattle.arena.specs.Held.{held, slots}
 use Rattle.arena.specs.declared.arena.Arena.{Arena}
 use Rattle.evaluator.specs.declared.expression_kind.ExpressionKind.{ExpressionKind}
 use Rattle.evaluator.specs.declared.expression_kind.ExpressionKindTracker.{ExpressionKindTracker}
 use Rattle.evaluator.specs.Tables.{Constants, Tables, Room, full, kinds_for}
+use Rattle.evaluator.specs.declared.tables.Nodes.{Nodes}
 use Rattle.evaluator.specs.declared.tables.Constants.{Constants as Shown}
 use Rattle.evaluator.specs.declared.tables.Tables.{Tables as Built}
 use Rattle.evaluator.specs.declared.tables.Asked.{Asked}
@@ -15,6 +16,10 @@ use Rattle.evaluator.specs.declared.tables.FullTable.{FullTable}
 -- the entry that is asked about
 abbrev pub node_of : Asked → Node
 node_of a = record { kind = a.kind; words = a.words; operands = a.operands.now; span = a.span }
+
+-- the nodes that lie in slices
+abbrev pub nodes_in : Nodes → List Node
+nodes_in n = nodes n.entries.now n.operands.now
 
 abbrev pub constants_of : Shown → Constants
 constants_of c = record { list = c.list.now; globals = option_map (λ g. nodes_of g.now) c.globals }

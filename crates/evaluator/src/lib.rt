@@ -10,4 +10,4 @@ mod tables;
 pub use evaluation::Evaluated;
 pub use expression_kind::{ExpressionKind, ExpressionKindTracker};
 pub use folder::{Fault, Folder, needs_pre_emit};
-pub use tables::{Asked, Constants, FullTable, NewConstant, Tables};
+pub use tables::{Asked, Constants, FullTable, NewConstant, Nodes, Tables};

@@ -4,8 +4,29 @@ ghost use Rattle.arena.specs.Appends.{nodes_of};
 ghost use Rattle.arena.specs.Held.{held};
 
 use crate::expression_kind::{ExpressionKind, ExpressionKindTracker};
-use arena::{Arena, Handle, Span};
+use arena::{Arena, Entry, Handle, Span};
 use thiserror::Error;
+
+// Finished entries with the list that their operands lie in, in an arena or not.
+#[derive(Clone, Copy)]
+pub struct Nodes<'a> {
+    pub entries: &'a [Entry],
+    pub operands: &'a [Handle],
+}
+
+impl<'a> Nodes<'a> {
+    ghost use Rattle.evaluator.specs.Views.{nodes_in};
+
+    // Those of an arena.
+    pub fn of(arena: &'a Arena) -> Nodes<'a>
+        ensures { nodes_in result ≡ nodes_of arena.now }
+    {
+        Nodes {
+            entries: arena.entries(),
+            operands: arena.operand_list(),
+        }
+    }
+}
 
 // A constant of the tables that are built. Until it is mapped, its init is a handle of the old table.
 #[derive(Clone, Copy, PartialEq, Eq, Debug)]

@@ -81,4 +81,4 @@ module _ (f : Meaning) (s : Source) (old : Read) (a : Memory) (es : old.entries.
   by_cases b w (Err y) (Err z) ls ss k n = subst (λ (v : FoldError). FoldedBy f s (Err v)) (sym n) (stops_of (folding f s) (finished b.expressions ls b.constants (vec_items b.images) ss w) y k.went)
 
   pub folded_by : (b : Memory) (w : Walk) (x : Result Folded FoldError) → WalkedIn f old a b (Some w) → Finished b w x → FoldedBy f s x
-  folded_by b w x k n = by_cases b w w.ended x k.0 k.1 (as_source (finished b.expressions k.0 b.constants (vec_items b.images) k.1 w) w.ended k.2) n
+  folded_by b w x k n = by_cases b w w.ended x k.0 k.1 (as_source (finished b.expressions k.0 b.constants (vec_items b.images) k.1 w) w.ended k.3) n

@@ -105,7 +105,7 @@ pub record Reserved (s : Source) (m : Memory) : Type 0 where
 abbrev pub WalkedBy : Meaning → Read → Table ℕ → Arena → List ExpressionKind → Table NewConstant → List ℕ → Arena → Table NewConstant → List ℕ → Option Walk → Type 0
 WalkedBy f old scratch a ks cs is b ds js r =
     MatchOption r (Unfit old scratch cs is)
-    (λ w. (ls : List ExpressionKind) × (ss : List ℕ) × WalkedAs f (room_of_slices a ks cs is [])
+    (λ w. (ls : List ExpressionKind) × (ss : List ℕ) × (length ls ≡ w.kinds) × WalkedAs f (room_of_slices a ks cs is [])
     (record { entries = nodes old.entries.now old.operands.now; inits = map (λ (c : NewConstant). c.init) (items cs); overrides = old.overrides.now })
     (items cs) (finished b ls ds js ss w) w.ended)
 

@@ -1,11 +1,13 @@
 // Literals, seen through constants.
 ghost use Rattle.std.specs.Prelude.{◌≡◌, map};
-ghost use Rattle.arena.specs.Appends.{nodes_of};
-ghost use Rattle.evaluator.specs.Views.{constants_of, tables_of};
+ghost use Rattle.std.specs.List.{slice_get};
+ghost use Rattle.std.specs.Option.{option_map};
+ghost use Rattle.arena.specs.Nodes.{node};
+ghost use Rattle.evaluator.specs.Views.{constants_of, nodes_in, tables_of};
 ghost use Rattle.layers.specs.Values.{value_by, value_at, init_by, init_at, init_below, behind_in, behind};
 
-use arena::{Arena, Handle};
-use evaluator::{Constants, NewConstant, Tables};
+use arena::{Entry, Handle};
+use evaluator::{Constants, NewConstant, Nodes, Tables};
 use kinds::Expression;
 
 // A literal's type and bits.
@@ -29,10 +31,18 @@ fn value_by(kind: u8, words: [u32; 4]) -> Option<Value>
     })
 }
 
-fn value_at(entries: &Arena, handle: Handle) -> Option<Value>
-    ensures { result ≡ value_at (nodes_of entries.now) handle }
+// The entry of a handle, if there is one.
+fn entry_at(nodes: Nodes<'_>, handle: Handle) -> Option<Entry>
+    ensures { option_map (node nodes.entry.operands.now) result ≡ slice_get (nodes_in nodes.entry) handle }
 {
-    value_by(entries.kind(handle)?, entries.words(handle)?)
+    nodes.entries.get(handle as usize).copied()
+}
+
+fn value_at(nodes: Nodes<'_>, handle: Handle) -> Option<Value>
+    ensures { result ≡ value_at (nodes_in nodes.entry) handle }
+{
+    let entry = entry_at(nodes, handle)?;
+    value_by(entry.kind, entry.words)
 }
 
 // The init of the constant that an entry of this kind with these words names.
@@ -47,30 +57,32 @@ fn init_by(constants: &[NewConstant], kind: u8, words: [u32; 4]) -> Option<Handl
         .map(|constant| constant.init)
 }
 
-fn init_at(entries: &Arena, constants: &[NewConstant], handle: Handle) -> Option<Handle>
-    ensures { result ≡ init_at (nodes_of entries.now) (map (λ c. c.init) constants.now) handle }
+fn init_at(nodes: Nodes<'_>, constants: &[NewConstant], handle: Handle) -> Option<Handle>
+    ensures { result ≡ init_at (nodes_in nodes.entry) (map (λ c. c.init) constants.now) handle }
 {
-    init_by(constants, entries.kind(handle)?, entries.words(handle)?)
+    let entry = entry_at(nodes, handle)?;
+    init_by(constants, entry.kind, entry.words)
 }
 
 // The same, if it lies below the entry.
-fn init_below(entries: &Arena, constants: &[NewConstant], handle: Handle) -> Option<Handle>
-    ensures { result ≡ init_below (nodes_of entries.now) (map (λ c. c.init) constants.now) handle }
+fn init_below(nodes: Nodes<'_>, constants: &[NewConstant], handle: Handle) -> Option<Handle>
+    ensures { result ≡ init_below (nodes_in nodes.entry) (map (λ c. c.init) constants.now) handle }
 {
-    let init = init_at(entries, constants, handle)?;
+    let init = init_at(nodes, constants, handle)?;
     (init < handle).then_some(init)
 }
 
-// The literal behind an entry of a table whose inits are its own. Each constant on the way leads further down.
+// The literal behind an entry of finished tables whose inits are its own. Each constant on the way leads further down, so
+// however many there are, the way ends.
 #[tactic(auto, using(crate::proofs::Seeing::behind_step, crate::proofs::Seeing::behind_here, crate::proofs::Seeing::init_is_below))]
-fn behind_in(entries: &Arena, constants: &[NewConstant], handle: Handle) -> Option<Value>
-    ensures { result ≡ behind_in (nodes_of entries.now) (map (λ c. c.init) constants.now) handle }
+pub fn literal_behind(nodes: Nodes<'_>, constants: &[NewConstant], handle: Handle) -> Option<Value>
+    ensures { result ≡ behind_in (nodes_in nodes.entry) (map (λ c. c.init) constants.now) handle }
 {
     let mut at = handle;
-    while let Some(init) = init_below(entries, constants, at) {
+    while let Some(init) = init_below(nodes, constants, at) {
         at = init;
     }
-    value_at(entries, at)
+    value_at(nodes, at)
 }
 
 // The literal behind an entry of the tables.
@@ -81,12 +93,12 @@ pub(crate) fn behind(
 ) -> Option<Value>
     ensures { result ≡ behind (tables_of (constants_of constants.entry) tables.now) handle }
 {
-    let expressions = tables.expressions();
+    let expressions = Nodes::of(tables.expressions());
     let Some(globals) = constants.globals else {
-        return behind_in(expressions, constants.list, handle);
+        return literal_behind(expressions, constants.list, handle);
     };
     match init_at(expressions, constants.list, handle) {
-        Some(init) => behind_in(globals, constants.list, init),
+        Some(init) => literal_behind(Nodes::of(globals), constants.list, init),
         None => value_at(expressions, handle),
     }
 }

@@ -21,10 +21,11 @@ pub struct Old<'a> {
     pub overrides: &'a [Valued],
 }
 
-// How a walk ended, and how many images and overrides' constants it has written.
+// How a walk ended, and how many kinds, images and overrides' constants it has written.
 #[derive(Clone, Copy, PartialEq, Eq, Debug)]
 pub struct Walked {
     pub ended: Result<(), Refusal>,
+    pub kinds: usize,
     pub images: usize,
     pub settled: usize,
 }
@@ -61,7 +62,7 @@ fn walk_lent<F: Folder>(
     work.walk_module(folder, old.overrides)
 }
 
-// A walk that begins with nothing written. Of the kinds nothing is said afterwards.
+// A walk that begins with nothing written. Of the kinds it is said afterwards how many there are.
 fn walk_slices<F: Folder>(
     folder: &F,
     old: Old<'_>,
@@ -74,7 +75,7 @@ fn walk_slices<F: Folder>(
 ) -> Walked
     requires wide { length old.operands.now ≤ limit scratch.old }
     requires small { (length images.old ≤ 4294967295) × (limit constants.old ≤ 4294967295) }
-    ensures went { (ks : List Kind) × Went (walk_module (F.verdict folder.now) (room_of_slices expressions.old kinds.old constants.old images.old settled.old)
+    ensures went { (ks : List Kind) × (length ks ≡ result.kinds) × Went (walk_module (F.verdict folder.now) (room_of_slices expressions.old kinds.old constants.old images.old settled.old)
         old.entry.overrides.now (nodes old.entry.entries.now old.entry.operands.now) (begun (items constants.old)))
         (finished expressions.new ks constants.new images.new settled.new result) result.ended }
 {
@@ -94,13 +95,14 @@ fn walk_slices<F: Folder>(
     );
     Walked {
         ended,
+        kinds: kinds.len(),
         images: images.len(),
         settled: settled.len(),
     }
 }
 
 // A walk over a module's entries, whatever the tables held before. None where `scratch` cannot hold so many operands, or where images or
-// constants would have no number. What is left in `kinds` is of no use afterwards.
+// constants would have no number. Of what is left in `kinds` it is said only how many are written.
 pub fn walk_entries<F: Folder>(
     folder: &F,
     old: Old<'_>,
@@ -111,7 +113,7 @@ pub fn walk_entries<F: Folder>(
     images: &mut [Handle],
     settled: &mut [u32],
 ) -> Option<Walked>
-    ensures { MatchOption result (Unfit old.entry scratch.old constants.old images.old) (λ w. (ks : List Kind) × WalkedAs (F.verdict folder.now)
+    ensures { MatchOption result (Unfit old.entry scratch.old constants.old images.old) (λ w. (ks : List Kind) × (length ks ≡ w.kinds) × WalkedAs (F.verdict folder.now)
         (room_of_slices expressions.old kinds.old constants.old images.old settled.old)
         (record { entries = nodes old.entry.entries.now old.entry.operands.now; inits = map (λ c. c.init) (items constants.old); overrides = old.entry.overrides.now })
         (items constants.old) (finished expressions.new ks constants.new images.new settled.new w) w.ended) }

@@ -3,4 +3,4 @@ use Rattle.arena.specs.Held.{held}
 use Rattle.walking.proofs.modules.walk_slices.Goals as goal
 
 pub returns : goal.returns
-returns g c = record { went = (held c.walk_lent-ended.new.kinds.inner, search rules) }
+returns g c = record { went = (held c.walk_lent-ended.new.kinds.inner, search rules, search rules) }

@@ -1,5 +1,6 @@
 // A whole walk over a module's entries, from empty tables.
-ghost use Rattle.std.specs.Prelude.{◌≡◌, ◌≤◌, List, length, map, MatchOption};
+ghost use Rattle.std.specs.Prelude.{◌≡◌, ◌≤◌, List, length, map, IfSome, MatchOption};
+ghost use Rattle.arena.specs.Appends.{SameLimits};
 ghost use Rattle.arena.specs.Items.{items, limit};
 ghost use Rattle.arena.specs.Nodes.{nodes};
 ghost use Rattle.arena.specs.Held.{slots};
@@ -48,6 +49,8 @@ fn walk_lent<F: Folder>(
         (written expressions.old kinds.old constants.old images.old settled.old))
         (written expressions.new kinds.new constants.new images.new settled.new) result }
     ensures lenders { (images.new.slots.ghost_name ≡ images.old.slots.ghost_name) × (settled.new.slots.ghost_name ≡ settled.old.slots.ghost_name) }
+    ensures limits { SameLimits expressions.old expressions.new × (limit constants.new ≡ limit constants.old) }
+    ensures wide { length old.entry.operands.now ≤ limit scratch.new }
 {
     let mut work = Work {
         entries: old.entries,
@@ -78,6 +81,8 @@ fn walk_slices<F: Folder>(
     ensures went { (ks : List Kind) × (length ks ≡ result.kinds) × Went (walk_module (F.verdict folder.now) (room_of_slices expressions.old kinds.old constants.old images.old settled.old)
         old.entry.overrides.now (nodes old.entry.entries.now old.entry.operands.now) (begun (items constants.old)))
         (finished expressions.new ks constants.new images.new settled.new result) result.ended }
+    ensures limits { SameLimits expressions.old expressions.new × (limit constants.new ≡ limit constants.old) }
+    ensures wide { length old.entry.operands.now ≤ limit scratch.new }
 {
     expressions.clear();
     let mut kinds = ExpressionKindTracker::new(kinds);
@@ -113,10 +118,12 @@ pub fn walk_entries<F: Folder>(
     images: &mut [Handle],
     settled: &mut [u32],
 ) -> Option<Walked>
-    ensures { MatchOption result (Unfit old.entry scratch.old constants.old images.old) (λ w. (ks : List Kind) × (length ks ≡ w.kinds) × WalkedAs (F.verdict folder.now)
+    ensures walked { MatchOption result (Unfit old.entry scratch.old constants.old images.old) (λ w. (ks : List Kind) × (length ks ≡ w.kinds) × WalkedAs (F.verdict folder.now)
         (room_of_slices expressions.old kinds.old constants.old images.old settled.old)
         (record { entries = nodes old.entry.entries.now old.entry.operands.now; inits = map (λ c. c.init) (items constants.old); overrides = old.entry.overrides.now })
         (items constants.old) (finished expressions.new ks constants.new images.new settled.new w) w.ended) }
+    ensures limits { SameLimits expressions.old expressions.new × (limit constants.new ≡ limit constants.old) }
+    ensures wide { IfSome result (λ _. length old.entry.operands.now ≤ limit scratch.new) }
 {
     let numbers = u32::MAX as usize;
     let fits = old.operands.len() <= scratch.limit()

@@ -3,8 +3,8 @@ use Rattle.arena.specs.Appends.{entry_limit}
 use Rattle.walking.proofs.ModuleKeeps.{walked_as}
 use Rattle.walking.proofs.modules.walk_entries.Goals as goal
 
-pub returns : goal.returns
-returns g c =
+pub returns-clause-walked : goal.returns-clause-walked
+returns-clause-walked g c =
     let w = c.walk_slices.ensures.went in
     let few : entry_limit c.args.expressions.now ≤ 4294967295 = c.args.expressions.now.small.0 in
     let images : length c.args.images.now ≤ 4294967295 = search rules in

@@ -1,0 +1,125 @@
+-- From what a walk in the finished tables came to, to what settling a module gives.
+use Rattle.std.proofs.Common.{rules, ◌≡◌, ℕ, ◌<◌, List, [], ◌∷◌, length, vec_items, refl, sym, ap, ◌∙◌, subst, Ok, Err, Result}
+use Rattle.std.proofs.lemmas.List.{length-map}
+use Rattle.std.proofs.lemmas.Option.{none-some}
+use Rattle.arena.specs.Items.{items}
+use Rattle.arena.specs.Nodes.{node, nodes, operand_total}
+use Rattle.arena.specs.Tiles.{Tiled}
+use Rattle.refusals.specs.declared.Refusal.{Refusal}
+use Rattle.ir.specs.declared.tables.Override.{Override}
+use Rattle.ir.specs.declared.tables.Sizes.{Sizes}
+use Rattle.ir.specs.Tables.{Global, sizes_of}
+use Rattle.evaluator.specs.declared.expression_kind.ExpressionKind.{ExpressionKind}
+use Rattle.evaluator.specs.Verdicts.{Meaning}
+use Rattle.settings.specs.Layout.{Given}
+use Rattle.walking.specs.declared.overrides.Valued.{Valued}
+use Rattle.walking.specs.Laws.{KeepsTrees}
+use Rattle.walking.specs.Accepted.{Accepted, old_of_global}
+use Rattle.walking.proofs.Accepting.{accepted_is_checked}
+use Rattle.overrides.specs.Values.{ValuedFor}
+use Rattle.overrides.proofs.Standing.{valued_is_values}
+use Rattle.pipeline_constants.specs.declared.finished.Finished.{Finished}
+use Rattle.pipeline_constants.specs.declared.finished.Written.{Written}
+use Rattle.pipeline_constants.specs.declared.module.Module.{Module}
+use Rattle.pipeline_constants.specs.declared.settling.Ended.{Ended}
+use Rattle.pipeline_constants.specs.Contents.{Content, copies}
+use Rattle.pipeline_constants.specs.Settlings.{Limits, Answer, settles, settled_by, settling, after_walk, walked}
+use Rattle.pipeline_constants.specs.Views.{content_of, limits_of, room_of, tables_of, counts, written_in}
+use Rattle.pipeline_constants.specs.Beginnings.{Copied}
+use Rattle.pipeline_constants.specs.Endings.{Came, Ending}
+use Rattle.pipeline_constants.specs.Laws.{Stays, RunsBy, Runs, SettledAs, StoppedAs}
+use Rattle.pipeline_constants.proofs.SameTrees.{copies_keep}
+use Rattle.pipeline_constants.proofs.Walked.{same_limits}
+
+-- with an override there is a walk
+by_walk : (ps : List Override) (f : Meaning) (r : Limits) (m : Global) (os : List Valued) → 0 < length ps → settled_by ps f r m os ≡ after_walk m (walked f r m os)
+by_walk [] f r m os l = absurd (not_below l)
+  where
+    not_below : 0 < 0 → ⊥
+    not_below l = search rules
+by_walk (p ∷ ps) f r m os l = refl
+
+runs_tile : (ps : List Override) (a b : Module) → 0 < length ps → Tiled (items b.finished.entries) (length (items b.finished.operands)) → RunsBy ps a b
+runs_tile [] a b l t = absurd (not_below l)
+  where
+    not_below : 0 < 0 → ⊥
+    not_below l = search rules
+runs_tile (p ∷ ps) a b l t = t
+
+module _ (f : Meaning) (a : Module) (os : List Valued) (ks : List ExpressionKind) (e : Ended) (some : 0 < length (vec_items a.source.overrides)) (ending : Ending f (tables_of a) os (length (vec_items a.kinds)) a.finished ks e) where
+  came : (r : Result Sizes Refusal) → e.sized ≡ r → Came (settling f (room_of a) (tables_of a) os) (content_of e.finished ks) r
+  came r q =
+      subst (λ (x : Answer). Came x (content_of e.finished ks) r) (sym (by_walk (vec_items a.source.overrides) f (room_of a) (tables_of a) os some))
+      (subst (Came (after_walk (tables_of a) (walked f (room_of a) (tables_of a) os)) (content_of e.finished ks)) q ending.came)
+
+  module _ (b : Module) (source : b.source ≡ a.source) (finished : b.finished ≡ e.finished) (kinds : length (vec_items b.kinds) ≡ length (vec_items a.kinds)) where
+    stays : Stays a b
+    stays =
+        record {
+          source = source;
+          room = ap (λ (x : Finished). limits_of x (length (vec_items b.kinds))) finished ∙ (ap (limits_of e.finished) kinds ∙ ending.limits);
+        }
+
+    runs : Runs a b
+    runs =
+        runs_tile (vec_items a.source.overrides) a b some
+        (subst (λ (x : Finished). Tiled (items x.entries) (length (items x.operands))) (sym finished) ending.tiled)
+
+    pub settled_walked : (g : Given) → Accepted (tables_of a) → ValuedFor g (vec_items a.source.names) (vec_items a.source.overrides) os → e.sized ≡ Ok b.sizes →
+        SettledAs f a os (record { «module» = b })
+    settled_walked g accepted valued ok =
+        record {
+          kinds = ks;
+          rules = subst (λ (x : Finished). Came (settling f (room_of a) (tables_of a) os) (content_of x ks) (Ok b.sizes)) (sym finished) (came (Ok b.sizes) ok);
+          trees = subst (λ (x : Finished). KeepsTrees (old_of_global (tables_of a) os) (content_of x ks).walk) (sym finished)
+              (ending.keeps (accepted_is_checked (tables_of a) os accepted (valued_is_values g (tables_of a) os valued)) b.sizes ok);
+          runs = runs;
+          stays = stays;
+        }
+
+    counted : (x : Finished) → length (items x.operands) ≡ operand_total (nodes (items x.entries) (items x.operands)) → written_in x (length ks) ≡ counts (content_of x ks)
+    counted x total = rw (total, sym (length-map (items x.entries) (node (items x.operands)))) refl
+
+    pub stopped_walked : (x : Refusal) (w : Written) → b.sizes ≡ a.sizes → e.sized ≡ Err x → w ≡ written_in e.finished e.kinds →
+        StoppedAs f a os (record { «module» = b; refusal = x; written = w })
+    stopped_walked x w sizes err writ =
+        record {
+          kinds = ks;
+          rules = subst (λ (y : Finished). Came (settling f (room_of a) (tables_of a) os) (content_of y ks) (Err x)) (sym finished) (came (Err x) err);
+          written =
+              writ ∙ (ap (written_in e.finished) (sym ending.count)
+              ∙ (counted e.finished ending.total ∙ ap (λ (y : Finished). counts (content_of y ks)) (sym finished)));
+          runs = runs;
+          sizes = sizes;
+          stays = stays;
+        }
+
+-- ---- a module without overrides
+
+pub bare_given : (g : Given) (names : List ℕ) (ps : List Override) → ps ≡ [] → ValuedFor g names ps []
+bare_given g names ps bare =
+    subst (λ (qs : List Override). ValuedFor g names qs []) (sym bare) (record { every = refl; each = λ p o v e. absurd (none-some o e) })
+
+module _ (a : Module) (bare : vec_items a.source.overrides ≡ []) where
+  -- the copies in the words of the rules
+  by_copies : (f : Meaning) → settling f (room_of a) (tables_of a) [] ≡ settles (copies (tables_of a)) (tables_of a).sizes
+  by_copies f = ap (λ (ps : List Override). settled_by ps f (room_of a) (tables_of a) []) bare
+
+  content_copied : (x : Finished) → Copied a.source a.finished x → content_of x [] ≡ copies (tables_of a)
+  content_copied x c = rw (c.entries, c.operands, c.constants, c.overrides, c.variables, c.images, c.settled) refl
+
+  pub settled_copied : (f : Meaning) (b : Module) → b.source ≡ a.source → b.sizes ≡ a.sizes → length (vec_items b.kinds) ≡ length (vec_items a.kinds) → Copied a.source a.finished b.finished →
+      Accepted (tables_of a) → SettledAs f a [] (record { «module» = b })
+  settled_copied f b source sizes kinds c accepted =
+      let same = content_copied b.finished c in
+      let checked = accepted_is_checked (tables_of a) [] accepted (valued_is_values (record { keys = []; values = [] }) (tables_of a) [] (bare_given (record { keys = []; values = [] }) (vec_items a.source.names) (vec_items a.source.overrides) bare)) in
+      record {
+        kinds = [];
+        rules = subst (λ (x : Answer). Came x (content_of b.finished []) (Ok b.sizes)) (sym (by_copies f)) (same, ap sizes_of sizes);
+        trees = subst (λ (x : Content). KeepsTrees (old_of_global (tables_of a) []) x.walk) (sym same) (copies_keep (tables_of a) checked);
+        runs = subst (λ (ps : List Override). RunsBy ps a b) (sym bare) (c.entries, c.operands);
+        stays = record {
+          source = source;
+          room = ap (limits_of b.finished) kinds ∙ same_limits a.finished b.finished (length (vec_items a.kinds)) c.room;
+        };
+      }

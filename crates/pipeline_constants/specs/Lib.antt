@@ -1,0 +1,12 @@
+pub mod Contents
+pub mod Sizings
+pub mod Settlings
+pub mod Views
+pub mod Rooms
+pub mod Modules
+pub mod Copies
+pub mod Lookups
+pub mod Walks
+pub mod Beginnings
+pub mod Endings
+pub mod Laws

@@ -1,0 +1,19 @@
+// Settling a module: naga's `process_overrides`. A settings file gives values to overrides; each becomes a constant, and the global
+// expressions are built anew with all that a folder can work out.
+#![tactic(auto)]
+
+mod closing;
+mod copying;
+mod finished;
+mod full;
+mod images;
+mod module;
+mod room;
+mod settling;
+mod sizes;
+mod slots;
+mod walk;
+
+pub use finished::{Finished, Written};
+pub use module::{Module, Refused, Settled};
+pub use room::Room;

@@ -66,19 +66,19 @@ module _ (f : Meaning) (s : Source) (old : Read) (a : Memory) (es : old.entries.
       (subst (λ o. WalkedAs f (room_of_slices a.expressions (vec_items a.kinds) a.constants (vec_items a.images) []) o (unmapped (vec_items s.constants)) t e) old_is
       (subst (λ cs. WalkedAs f (room_of_slices a.expressions (vec_items a.kinds) a.constants (vec_items a.images) []) read_now cs t e) r.constants w))
 
-  by_cases : (b : Memory) (w : Walk) (e : Result (Unit {0}) Refusal) (x : Result Folded FoldError) (ls : List ExpressionKind) (ss : List ℕ) →
-      WalkedAs f (room_of s) (old_of s) (unmapped (vec_items s.constants)) (finished b.expressions ls b.constants (vec_items b.images) ss w) e →
+  by_cases : (b : Memory) (w : Walk) (e : Result (Unit {0}) Refusal) (x : Result Folded FoldError) (ss : List ℕ) →
+      WalkedAs f (room_of s) (old_of s) (unmapped (vec_items s.constants)) (finished b.expressions b.recorded b.constants (vec_items b.images) ss w) e →
       FinishedAs b w e x → FoldedBy f s x
-  by_cases b w (Ok u) (Ok g) ls ss k n =
-      let same : state_of g ls (take w.settled ss) ≡ finished b.expressions ls b.constants (vec_items b.images) ss w = rw (n.0, n.1, n.2) refl in (
-        ls,
+  by_cases b w (Ok u) (Ok g) ss k n =
+      let same : state_of g (items b.recorded) (take w.settled ss) ≡ finished b.expressions b.recorded b.constants (vec_items b.images) ss w = rw (n.0, n.1, n.2) refl in (
+        items b.recorded,
         take w.settled ss,
-        goes_of (folding f s) (finished b.expressions ls b.constants (vec_items b.images) ss w) u k.went ∙ ap goes (sym same),
+        goes_of (folding f s) (finished b.expressions b.recorded b.constants (vec_items b.images) ss w) u k.went ∙ ap goes (sym same),
         λ checked. subst (KeepsTrees (old_of s)) (sym same) (k.keeps (copied_inits (vec_items s.constants)) checked u refl),
       )
-  by_cases b w (Ok u) (Err y) ls ss k n = absurd n
-  by_cases b w (Err y) (Ok g) ls ss k n = absurd n
-  by_cases b w (Err y) (Err z) ls ss k n = subst (λ (v : FoldError). FoldedBy f s (Err v)) (sym n) (stops_of (folding f s) (finished b.expressions ls b.constants (vec_items b.images) ss w) y k.went)
+  by_cases b w (Ok u) (Err y) ss k n = absurd n
+  by_cases b w (Err y) (Ok g) ss k n = absurd n
+  by_cases b w (Err y) (Err z) ss k n = subst (λ (v : FoldError). FoldedBy f s (Err v)) (sym n) (stops_of (folding f s) (finished b.expressions b.recorded b.constants (vec_items b.images) ss w) y k.went)
 
   pub folded_by : (b : Memory) (w : Walk) (x : Result Folded FoldError) → WalkedIn f old a b (Some w) → Finished b w x → FoldedBy f s x
-  folded_by b w x k n = by_cases b w w.ended x k.0 k.1 (as_source (finished b.expressions k.0 b.constants (vec_items b.images) k.1 w) w.ended k.3) n
+  folded_by b w x k n = by_cases b w w.ended x k.0 (as_source (finished b.expressions b.recorded b.constants (vec_items b.images) k.0 w) w.ended k.1) n

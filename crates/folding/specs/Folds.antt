@@ -96,23 +96,24 @@ pub record Reserved (s : Source) (m : Memory) : Type 0 where
   pub entries : entry_limit m.expressions ≡ 65536
   pub operands : operand_limit m.expressions ≡ 262144
   pub kinds : length (vec_items m.kinds) ≡ 65536
+  pub recorded : limit m.recorded ≡ 65536
   pub constants : items m.constants ≡ unmapped (vec_items s.constants)
   pub constant_limit : limit m.constants ≡ length (vec_items s.constants)
   pub images : length (vec_items m.images) ≡ length (vec_items s.entries)
   pub scratch : limit m.scratch ≡ length (vec_items s.operands)
 
 -- what a walk with these tables leaves in them; of overrides' constants there are none to keep
-abbrev pub WalkedBy : Meaning → Read → Table ℕ → Arena → List ExpressionKind → Table NewConstant → List ℕ → Arena → Table NewConstant → List ℕ → Option Walk → Type 0
-WalkedBy f old scratch a ks cs is b ds js r =
-    MatchOption r (Unfit old scratch cs is)
-    (λ w. (ls : List ExpressionKind) × (ss : List ℕ) × (length ls ≡ w.kinds) × WalkedAs f (room_of_slices a ks cs is [])
+abbrev pub WalkedBy : Meaning → Read → Table ℕ → Arena → List ExpressionKind → Table ExpressionKind → Table NewConstant → List ℕ → Arena → Table ExpressionKind → Table NewConstant → List ℕ → Option Walk → Type 0
+WalkedBy f old scratch a ks recorded cs is b ls ds js r =
+    MatchOption r (Unfit old scratch ks recorded cs is)
+    (λ w. (ss : List ℕ) × WalkedAs f (room_of_slices a ks cs is [])
     (record { entries = nodes old.entries.now old.operands.now; inits = map (λ (c : NewConstant). c.init) (items cs); overrides = old.overrides.now })
     (items cs) (finished b ls ds js ss w) w.ended)
 
 -- the same in memory a, which it leaves as b
 abbrev pub WalkedIn : Meaning → Read → Memory → Memory → Option Walk → Type 0
 WalkedIn f old a b r =
-    WalkedBy f old a.scratch a.expressions (vec_items a.kinds) a.constants (vec_items a.images) b.expressions b.constants (vec_items b.images) r
+    WalkedBy f old a.scratch a.expressions (vec_items a.kinds) a.recorded a.constants (vec_items a.images) b.expressions b.recorded b.constants (vec_items b.images) r
 
 -- what is finished in memory m after a walk, or why it stopped
 abbrev pub FinishedAs : Memory → Walk → Result (Unit {0}) Refusal → Result Folded FoldError → Type 0

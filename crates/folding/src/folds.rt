@@ -65,6 +65,7 @@ struct Memory {
     constants: Table<NewConstant>,
     scratch: Table<Handle>,
     kinds: Vec<ExpressionKind>,
+    recorded: Table<ExpressionKind>,
     images: Vec<Handle>,
 }
 
@@ -75,12 +76,14 @@ fn reserve(heap: Global, source: &Source) -> Result<Memory, AllocError>
     let constants = copied(heap, source.constants.as_slice())?;
     let scratch = Table::with_limit(heap, source.operands.len())?;
     let kinds = vec![in heap; ExpressionKind::Runtime; ENTRIES as usize]?;
+    let recorded = Table::with_limit(heap, ENTRIES as usize)?;
     let images = vec![in heap; 0u32; source.entries.len()]?;
     Ok(Memory {
         expressions,
         constants,
         scratch,
         kinds,
+        recorded,
         images,
     })
 }
@@ -94,9 +97,19 @@ fn walk_memory<F: Folder>(folder: &F, old: Old<'_>, memory: &mut Memory) -> Opti
         constants,
         scratch,
         kinds,
+        recorded,
         images,
     } = memory;
-    walk_vecs(folder, old, scratch, expressions, kinds, constants, images)
+    walk_vecs(
+        folder,
+        old,
+        scratch,
+        expressions,
+        kinds,
+        recorded,
+        constants,
+        images,
+    )
 }
 
 // The same over the parts of the memory.
@@ -106,11 +119,12 @@ fn walk_vecs<F: Folder>(
     scratch: &mut Table<Handle>,
     expressions: &mut Arena,
     kinds: &mut Vec<ExpressionKind>,
+    recorded: &mut Table<ExpressionKind>,
     constants: &mut Table<NewConstant>,
     images: &mut Vec<Handle>,
 ) -> Option<Walked>
-    ensures { WalkedBy (F.verdict folder.now) old.entry scratch.old expressions.old (vec_items kinds.old) constants.old (vec_items images.old)
-        expressions.new constants.new (vec_items images.new) result }
+    ensures { WalkedBy (F.verdict folder.now) old.entry scratch.old expressions.old (vec_items kinds.old) recorded.old constants.old (vec_items images.old)
+        expressions.new recorded.new constants.new (vec_items images.new) result }
 {
     let mut settled = [0u32; 0];
     walk_entries(
@@ -119,6 +133,7 @@ fn walk_vecs<F: Folder>(
         scratch,
         expressions,
         kinds.as_mut_slice(),
+        recorded,
         constants,
         images.as_mut_slice(),
         &mut settled,

@@ -63,17 +63,19 @@ room_of_slices a ks cs images settled =
     }
 
 -- what tables hold of which so many images and so many overrides' constants are written
-abbrev pub finished : Arena → List ExpressionKind → Table NewConstant → List ℕ → List ℕ → Walked → State
+abbrev pub finished : Arena → Table ExpressionKind → Table NewConstant → List ℕ → List ℕ → Walked → State
 finished a ks cs images settled w =
     record {
-      tables = record { entries = nodes_of a; kinds = ks; constants = record { list = items cs; globals = None } };
+      tables = record { entries = nodes_of a; kinds = items ks; constants = record { list = items cs; globals = None } };
       images = take w.images images;
       settled = take w.settled settled;
     }
 
--- no walk begins in these: there are more operands than room to map them, or images or constants past the last number
-abbrev pub Unfit : Old → Table ℕ → Table NewConstant → List ℕ → Type 0
-Unfit old scratch cs images = (limit scratch < length old.operands.now) ⊎ (4294967295 < length images) ⊎ (4294967295 < limit cs)
+-- no walk begins in these: there are more operands than room to map them, or more kinds than room to record them, or images or
+-- constants past the last number
+abbrev pub Unfit : Old → Table ℕ → List ExpressionKind → Table ExpressionKind → Table NewConstant → List ℕ → Type 0
+Unfit old scratch ks recorded cs images =
+    (limit scratch < length old.operands.now) ⊎ (limit recorded < length ks) ⊎ (4294967295 < length images) ⊎ (4294967295 < limit cs)
 
 -- A walk over these from constants none of which is mapped.
 abbrev pub Begins : Module → List NewConstant → Type 0

@@ -1,11 +1,10 @@
 // A whole walk over a module's entries, from empty tables.
-ghost use Rattle.std.specs.Prelude.{◌≡◌, ◌≤◌, List, length, map, IfSome, MatchOption};
+ghost use Rattle.std.specs.Prelude.{◌≡◌, ◌≤◌, length, map, IfSome, MatchOption};
 ghost use Rattle.arena.specs.Appends.{SameLimits};
 ghost use Rattle.arena.specs.Items.{items, limit};
 ghost use Rattle.arena.specs.Nodes.{nodes};
-ghost use Rattle.arena.specs.Held.{slots};
+ghost use Rattle.arena.specs.Held.{held, slots};
 ghost use Rattle.walking.specs.Modules.{Unfit, WalkedAs, begun, finished, room_for, room_of_slices, walk_module, written};
-ghost use Rattle.evaluator.specs.declared.expression_kind.ExpressionKind.{ExpressionKind as Kind};
 ghost use Rattle.walking.specs.Works.{Went};
 
 use crate::overrides::Valued;
@@ -22,11 +21,10 @@ pub struct Old<'a> {
     pub overrides: &'a [Valued],
 }
 
-// How a walk ended, and how many kinds, images and overrides' constants it has written.
+// How a walk ended, and how many images and overrides' constants it has written.
 #[derive(Clone, Copy, PartialEq, Eq, Debug)]
 pub struct Walked {
     pub ended: Result<(), Refusal>,
-    pub kinds: usize,
     pub images: usize,
     pub settled: usize,
 }
@@ -49,7 +47,7 @@ fn walk_lent<F: Folder>(
         (written expressions.old kinds.old constants.old images.old settled.old))
         (written expressions.new kinds.new constants.new images.new settled.new) result }
     ensures lenders { (images.new.slots.ghost_name ≡ images.old.slots.ghost_name) × (settled.new.slots.ghost_name ≡ settled.old.slots.ghost_name) }
-    ensures limits { SameLimits expressions.old expressions.new × (limit constants.new ≡ limit constants.old) }
+    ensures limits { SameLimits expressions.old expressions.new × (limit constants.new ≡ limit constants.old) × (length (slots kinds.new.inner) ≡ length (slots kinds.old.inner)) }
     ensures wide { length old.entry.operands.now ≤ limit scratch.new }
 {
     let mut work = Work {
@@ -65,23 +63,26 @@ fn walk_lent<F: Folder>(
     work.walk_module(folder, old.overrides)
 }
 
-// A walk that begins with nothing written. Of the kinds it is said afterwards how many there are.
+// A walk that begins with nothing written. The kinds are copied at the end: of a lent slice inside a struct inside a struct nothing is
+// known afterwards.
 fn walk_slices<F: Folder>(
     folder: &F,
     old: Old<'_>,
     scratch: &mut Table<Handle>,
     expressions: &mut Arena,
     kinds: &mut [ExpressionKind],
+    recorded: &mut Table<ExpressionKind>,
     constants: &mut Table<NewConstant>,
     images: &mut [Handle],
     settled: &mut [u32],
 ) -> Walked
     requires wide { length old.operands.now ≤ limit scratch.old }
     requires small { (length images.old ≤ 4294967295) × (limit constants.old ≤ 4294967295) }
-    ensures went { (ks : List Kind) × (length ks ≡ result.kinds) × Went (walk_module (F.verdict folder.now) (room_of_slices expressions.old kinds.old constants.old images.old settled.old)
+    requires recordable { length kinds.old ≤ limit recorded.old }
+    ensures went { Went (walk_module (F.verdict folder.now) (room_of_slices expressions.old kinds.old constants.old images.old settled.old)
         old.entry.overrides.now (nodes old.entry.entries.now old.entry.operands.now) (begun (items constants.old)))
-        (finished expressions.new ks constants.new images.new settled.new result) result.ended }
-    ensures limits { SameLimits expressions.old expressions.new × (limit constants.new ≡ limit constants.old) }
+        (finished expressions.new recorded.new constants.new images.new settled.new result) result.ended }
+    ensures limits { SameLimits expressions.old expressions.new × (limit constants.new ≡ limit constants.old) × (limit recorded.new ≡ limit recorded.old) }
     ensures wide { length old.entry.operands.now ≤ limit scratch.new }
 {
     expressions.clear();
@@ -98,35 +99,47 @@ fn walk_slices<F: Folder>(
         &mut images,
         &mut settled,
     );
+    record_kinds(&kinds, recorded);
     Walked {
         ended,
-        kinds: kinds.len(),
         images: images.len(),
         settled: settled.len(),
     }
 }
 
-// A walk over a module's entries, whatever the tables held before. None where `scratch` cannot hold so many operands, or where images or
-// constants would have no number. Of what is left in `kinds` it is said only how many are written.
+// The kinds that are known, in place of what the table held.
+fn record_kinds(kinds: &ExpressionKindTracker<'_>, recorded: &mut Table<ExpressionKind>)
+    requires { length (slots kinds.now.inner) ≤ limit recorded.old }
+    ensures kinds { items recorded.new ≡ held kinds.now.inner }
+    ensures limit { limit recorded.new ≡ limit recorded.old }
+{
+    recorded.clear();
+    let _ = recorded.push_all(kinds.inner.as_slice());
+}
+
+// A walk over a module's entries, whatever the tables held before. None where `scratch` cannot hold so many operands, or `recorded` so
+// many kinds, or where images or constants would have no number.
 pub fn walk_entries<F: Folder>(
     folder: &F,
     old: Old<'_>,
     scratch: &mut Table<Handle>,
     expressions: &mut Arena,
     kinds: &mut [ExpressionKind],
+    recorded: &mut Table<ExpressionKind>,
     constants: &mut Table<NewConstant>,
     images: &mut [Handle],
     settled: &mut [u32],
 ) -> Option<Walked>
-    ensures walked { MatchOption result (Unfit old.entry scratch.old constants.old images.old) (λ w. (ks : List Kind) × (length ks ≡ w.kinds) × WalkedAs (F.verdict folder.now)
+    ensures walked { MatchOption result (Unfit old.entry scratch.old kinds.old recorded.old constants.old images.old) (λ w. WalkedAs (F.verdict folder.now)
         (room_of_slices expressions.old kinds.old constants.old images.old settled.old)
         (record { entries = nodes old.entry.entries.now old.entry.operands.now; inits = map (λ c. c.init) (items constants.old); overrides = old.entry.overrides.now })
-        (items constants.old) (finished expressions.new ks constants.new images.new settled.new w) w.ended) }
-    ensures limits { SameLimits expressions.old expressions.new × (limit constants.new ≡ limit constants.old) }
+        (items constants.old) (finished expressions.new recorded.new constants.new images.new settled.new w) w.ended) }
+    ensures limits { SameLimits expressions.old expressions.new × (limit constants.new ≡ limit constants.old) × (limit recorded.new ≡ limit recorded.old) }
     ensures wide { IfSome result (λ _. length old.entry.operands.now ≤ limit scratch.new) }
 {
     let numbers = u32::MAX as usize;
     let fits = old.operands.len() <= scratch.limit()
+        && kinds.len() <= recorded.limit()
         && images.len() <= numbers
         && constants.limit() <= numbers;
     if !fits {
@@ -138,6 +151,7 @@ pub fn walk_entries<F: Folder>(
         scratch,
         expressions,
         kinds,
+        recorded,
         constants,
         images,
         settled,

@@ -15,7 +15,7 @@ use Rattle.pipeline_constants.specs.Sizings.{sizing}
 use Rattle.pipeline_constants.specs.Views.{written_of}
 
 pub same_walk : (a b : Finished) → SameWalk a b → walk_of b ≡ walk_of a
-same_walk a b w = rw (w.entries, w.operands, w.constants, w.images, w.settled) refl
+same_walk a b w = rw (w.entries, w.operands, w.constants, w.images, w.settled, w.kinds) refl
 
 same_more : (a b c : Finished) → SameWalk a b → SameWalk b c → SameWalk a c
 same_more a b c v w =
@@ -25,6 +25,7 @@ same_more a b c v w =
       constants = w.constants ∙ v.constants;
       images = w.images ∙ v.images;
       settled = w.settled ∙ v.settled;
+      kinds = w.kinds ∙ v.kinds;
     }
 
 -- the inits are taken, then the variables are mapped, then come the sizes

@@ -29,7 +29,6 @@ use Rattle.pipeline_constants.specs.Beginnings.{Copied}
 use Rattle.pipeline_constants.specs.Endings.{Came, Ending}
 use Rattle.pipeline_constants.specs.Laws.{Stays, RunsBy, Runs, SettledAs, StoppedAs}
 use Rattle.pipeline_constants.proofs.SameTrees.{copies_keep}
-use Rattle.pipeline_constants.proofs.Walked.{same_limits}
 
 -- with an override there is a walk
 by_walk : (ps : List Override) (f : Meaning) (r : Limits) (m : Global) (os : List Valued) → 0 < length ps → settled_by ps f r m os ≡ after_walk m (walked f r m os)
@@ -46,18 +45,18 @@ runs_tile [] a b l t = absurd (not_below l)
     not_below l = search rules
 runs_tile (p ∷ ps) a b l t = t
 
-module _ (f : Meaning) (a : Module) (os : List Valued) (ks : List ExpressionKind) (e : Ended) (some : 0 < length (vec_items a.source.overrides)) (ending : Ending f (tables_of a) os (length (vec_items a.kinds)) a.finished ks e) where
-  came : (r : Result Sizes Refusal) → e.sized ≡ r → Came (settling f (room_of a) (tables_of a) os) (content_of e.finished ks) r
+module _ (f : Meaning) (a : Module) (os : List Valued) (e : Ended) (some : 0 < length (vec_items a.source.overrides)) (ending : Ending f (tables_of a) os a.finished e) where
+  came : (r : Result Sizes Refusal) → e.sized ≡ r → Came (settling f (room_of a) (tables_of a) os) (content_of e.finished) r
   came r q =
-      subst (λ (x : Answer). Came x (content_of e.finished ks) r) (sym (by_walk (vec_items a.source.overrides) f (room_of a) (tables_of a) os some))
-      (subst (Came (after_walk (tables_of a) (walked f (room_of a) (tables_of a) os)) (content_of e.finished ks)) q ending.came)
+      subst (λ (x : Answer). Came x (content_of e.finished) r) (sym (by_walk (vec_items a.source.overrides) f (room_of a) (tables_of a) os some))
+      (subst (Came (after_walk (tables_of a) (walked f (room_of a) (tables_of a) os)) (content_of e.finished)) q ending.came)
 
-  module _ (b : Module) (source : b.source ≡ a.source) (finished : b.finished ≡ e.finished) (kinds : length (vec_items b.kinds) ≡ length (vec_items a.kinds)) where
+  module _ (b : Module) (source : b.source ≡ a.source) (finished : b.finished ≡ e.finished) where
     stays : Stays a b
     stays =
         record {
           source = source;
-          room = ap (λ (x : Finished). limits_of x (length (vec_items b.kinds))) finished ∙ (ap (limits_of e.finished) kinds ∙ ending.limits);
+          room = ap limits_of finished ∙ ending.limits;
         }
 
     runs : Runs a b
@@ -69,26 +68,23 @@ module _ (f : Meaning) (a : Module) (os : List Valued) (ks : List ExpressionKind
         SettledAs f a os (record { «module» = b })
     settled_walked g accepted valued ok =
         record {
-          kinds = ks;
-          rules = subst (λ (x : Finished). Came (settling f (room_of a) (tables_of a) os) (content_of x ks) (Ok b.sizes)) (sym finished) (came (Ok b.sizes) ok);
-          trees = subst (λ (x : Finished). KeepsTrees (old_of_global (tables_of a) os) (content_of x ks).walk) (sym finished)
+          rules = subst (λ (x : Finished). Came (settling f (room_of a) (tables_of a) os) (content_of x) (Ok b.sizes)) (sym finished) (came (Ok b.sizes) ok);
+          trees = subst (λ (x : Finished). KeepsTrees (old_of_global (tables_of a) os) (content_of x).walk) (sym finished)
               (ending.keeps (accepted_is_checked (tables_of a) os accepted (valued_is_values g (tables_of a) os valued)) b.sizes ok);
           runs = runs;
           stays = stays;
         }
 
-    counted : (x : Finished) → length (items x.operands) ≡ operand_total (nodes (items x.entries) (items x.operands)) → written_in x (length ks) ≡ counts (content_of x ks)
+    counted : (x : Finished) → length (items x.operands) ≡ operand_total (nodes (items x.entries) (items x.operands)) → written_in x ≡ counts (content_of x)
     counted x total = rw (total, sym (length-map (items x.entries) (node (items x.operands)))) refl
 
-    pub stopped_walked : (x : Refusal) (w : Written) → b.sizes ≡ a.sizes → e.sized ≡ Err x → w ≡ written_in e.finished e.kinds →
+    pub stopped_walked : (x : Refusal) (w : Written) → b.sizes ≡ a.sizes → e.sized ≡ Err x → w ≡ written_in e.finished →
         StoppedAs f a os (record { «module» = b; refusal = x; written = w })
     stopped_walked x w sizes err writ =
         record {
-          kinds = ks;
-          rules = subst (λ (y : Finished). Came (settling f (room_of a) (tables_of a) os) (content_of y ks) (Err x)) (sym finished) (came (Err x) err);
+          rules = subst (λ (y : Finished). Came (settling f (room_of a) (tables_of a) os) (content_of y) (Err x)) (sym finished) (came (Err x) err);
           written =
-              writ ∙ (ap (written_in e.finished) (sym ending.count)
-              ∙ (counted e.finished ending.total ∙ ap (λ (y : Finished). counts (content_of y ks)) (sym finished)));
+              writ ∙ (counted e.finished ending.total ∙ ap (λ (y : Finished). counts (content_of y)) (sym finished));
           runs = runs;
           sizes = sizes;
           stays = stays;
@@ -105,21 +101,20 @@ module _ (a : Module) (bare : vec_items a.source.overrides ≡ []) where
   by_copies : (f : Meaning) → settling f (room_of a) (tables_of a) [] ≡ settles (copies (tables_of a)) (tables_of a).sizes
   by_copies f = ap (λ (ps : List Override). settled_by ps f (room_of a) (tables_of a) []) bare
 
-  content_copied : (x : Finished) → Copied a.source a.finished x → content_of x [] ≡ copies (tables_of a)
-  content_copied x c = rw (c.entries, c.operands, c.constants, c.overrides, c.variables, c.images, c.settled) refl
+  content_copied : (x : Finished) → Copied a.source a.finished x → content_of x ≡ copies (tables_of a)
+  content_copied x c = rw (c.entries, c.operands, c.constants, c.overrides, c.variables, c.images, c.settled, c.kinds) refl
 
-  pub settled_copied : (f : Meaning) (b : Module) → b.source ≡ a.source → b.sizes ≡ a.sizes → length (vec_items b.kinds) ≡ length (vec_items a.kinds) → Copied a.source a.finished b.finished →
+  pub settled_copied : (f : Meaning) (b : Module) → b.source ≡ a.source → b.sizes ≡ a.sizes → Copied a.source a.finished b.finished →
       Accepted (tables_of a) → SettledAs f a [] (record { «module» = b })
-  settled_copied f b source sizes kinds c accepted =
+  settled_copied f b source sizes c accepted =
       let same = content_copied b.finished c in
       let checked = accepted_is_checked (tables_of a) [] accepted (valued_is_values (record { keys = []; values = [] }) (tables_of a) [] (bare_given (record { keys = []; values = [] }) (vec_items a.source.names) (vec_items a.source.overrides) bare)) in
       record {
-        kinds = [];
-        rules = subst (λ (x : Answer). Came x (content_of b.finished []) (Ok b.sizes)) (sym (by_copies f)) (same, ap sizes_of sizes);
+        rules = subst (λ (x : Answer). Came x (content_of b.finished) (Ok b.sizes)) (sym (by_copies f)) (same, ap sizes_of sizes);
         trees = subst (λ (x : Content). KeepsTrees (old_of_global (tables_of a) []) x.walk) (sym same) (copies_keep (tables_of a) checked);
         runs = subst (λ (ps : List Override). RunsBy ps a b) (sym bare) (c.entries, c.operands);
         stays = record {
           source = source;
-          room = ap (limits_of b.finished) kinds ∙ same_limits a.finished b.finished (length (vec_items a.kinds)) c.room;
+          room = c.room;
         };
       }

@@ -28,23 +28,6 @@ use Rattle.pipeline_constants.specs.Walks.{Walking, old_of}
 use Rattle.pipeline_constants.specs.Beginnings.{Begun, Closed, SameRoom, Sized}
 use Rattle.pipeline_constants.specs.Endings.{Came, Ending}
 
--- room for so many kinds
-abbrev with_kinds : ℕ → Limits → Limits
-with_kinds kinds r =
-    record {
-      walk = record {
-        tables = record { entries = r.walk.tables.entries; operands = r.walk.tables.operands; kinds = kinds };
-        constants = r.walk.constants;
-        images = r.walk.images;
-        settled = r.walk.settled;
-      };
-      overrides = r.overrides;
-      variables = r.variables;
-    }
-
-pub same_limits : (a b : Finished) (kinds : ℕ) → SameRoom a b → limits_of b kinds ≡ limits_of a kinds
-same_limits a b kinds r = ap (with_kinds kinds) r
-
 -- the inits of constants that are not mapped, and the constants of these inits
 inits_of_new : (cs : List Constant) → map (λ (k : NewConstant). k.init) (new_constants false cs) ≡ map (λ (c : Constant). c.init) cs
 inits_of_new [] = refl
@@ -81,9 +64,9 @@ module _ (m : Source) (z : Sizes) (os : List Valued) where
   came_stopped (stops t code values) s d x r w e h =
       subst (Came (refuses (stopped g t) code values) d) (sym e) (h ∙ ap (stopped g) w.0, w.1)
 
-  module _ (f : Meaning) (kinds : ℕ) (a b t e : Finished) (ks : List ExpressionKind) (w : Walk) (r : Result Sizes Refusal) (begun : Begun m a b) (walking : Walking f m os kinds b ks t w) (closed : Closed m z t e w.ended r) where
+  module _ (f : Meaning) (a b t e : Finished) (w : Walk) (r : Result Sizes Refusal) (begun : Begun m a b) (walking : Walking f m os b t w) (closed : Closed m z t e w.ended r) where
     abbrev s : State
-    s = (content_of t ks).walk
+    s = (content_of t).walk
 
     -- the walk in the words of the rules
     old_is : old_of m os (new_constants false (vec_items m.constants)) ≡ old_of_global g os
@@ -91,45 +74,44 @@ module _ (m : Source) (z : Sizes) (os : List Valued) where
         ap (λ (is : List ℕ). record { entries = nodes (vec_items m.entries) (vec_items m.operands); inits = is; overrides = os })
         (inits_of_new (vec_items m.constants))
 
-    by_rules : WalkedAs f (limits_of a kinds).walk (old_of_global g os) (new_constants false (vec_items m.constants)) s w.ended
+    by_rules : WalkedAs f (limits_of a).walk (old_of_global g os) (new_constants false (vec_items m.constants)) s w.ended
     by_rules =
-        subst (λ (l : Limits). WalkedAs f l.walk (old_of_global g os) (new_constants false (vec_items m.constants)) s w.ended) (same_limits a b kinds begun.room)
-        (subst (λ (o : Old). WalkedAs f (limits_of b kinds).walk o (new_constants false (vec_items m.constants)) s w.ended) old_is
-        (subst (λ (cs : List NewConstant). WalkedAs f (limits_of b kinds).walk (old_of m os cs) cs s w.ended) begun.constants walking.walked))
+        subst (λ (l : Limits). WalkedAs f l.walk (old_of_global g os) (new_constants false (vec_items m.constants)) s w.ended) begun.room
+        (subst (λ (o : Old). WalkedAs f (limits_of b).walk o (new_constants false (vec_items m.constants)) s w.ended) old_is
+        (subst (λ (cs : List NewConstant). WalkedAs f (limits_of b).walk (old_of m os cs) cs s w.ended) begun.constants walking.walked))
 
     -- what the walk wrote stands in the tables afterwards
-    walk_is : (content_of e ks).walk ≡ s
-    walk_is = rw (closed.walk.entries, closed.walk.operands, closed.walk.constants, closed.walk.images, closed.walk.settled) refl
+    walk_is : (content_of e).walk ≡ s
+    walk_is = rw (closed.walk.entries, closed.walk.operands, closed.walk.constants, closed.walk.images, closed.walk.settled, closed.walk.kinds) refl
 
-    content_is : (vs : List (Option ℕ)) → items e.variables ≡ vs → content_of e ks ≡ content_made s (all_taken s (vec_items m.overrides)) vs
+    content_is : (vs : List (Option ℕ)) → items e.variables ≡ vs → content_of e ≡ content_made s (all_taken s (vec_items m.overrides)) vs
     content_is vs v = rw (walk_is, closed.overrides, v) refl
 
-    came : (x : Result (Unit {0}) Refusal) → w.ended ≡ x → Came (after_walk g (walked f (limits_of a kinds) g os)) (content_of e ks) r
+    came : (x : Result (Unit {0}) Refusal) → w.ended ≡ x → Came (after_walk g (walked f (limits_of a) g os)) (content_of e) r
     came (Ok u) q =
-        let went : Went (walked f (limits_of a kinds) g os) s (Ok u) = subst (Went (walked f (limits_of a kinds) g os) s) q by_rules.went in
+        let went : Went (walked f (limits_of a) g os) s (Ok u) = subst (Went (walked f (limits_of a) g os) s) q by_rules.went in
         let sizes : Sized m z t e (Ok u) r = subst (λ (y : Result (Unit {0}) Refusal). Sized m z t e y r) q closed.sized in
-        subst (λ (o : Outcome). Came (after_walk g o) (content_of e ks) r) (sym (goes_of (walked f (limits_of a kinds) g os) s u went))
-        (came_sized (ended g s) (content_of e ks) (sizing s 0 g.sizes) r (content_is (variables_mapped s.images g.variables) sizes.0) sizes.1)
+        subst (λ (o : Outcome). Came (after_walk g o) (content_of e) r) (sym (goes_of (walked f (limits_of a) g os) s u went))
+        (came_sized (ended g s) (content_of e) (sizing s 0 g.sizes) r (content_is (variables_mapped s.images g.variables) sizes.0) sizes.1)
     came (Err x) q =
-        let went : Went {A = Unit {0}} (walked f (limits_of a kinds) g os) s (Err x) = subst (Went (walked f (limits_of a kinds) g os) s) q by_rules.went in
+        let went : Went {A = Unit {0}} (walked f (limits_of a) g os) s (Err x) = subst (Went (walked f (limits_of a) g os) s) q by_rules.went in
         let sizes : Sized m z t e (Err x) r = subst (λ (y : Result (Unit {0}) Refusal). Sized m z t e y r) q closed.sized in
         let same : items e.variables ≡ vec_items m.variables = ap items sizes.0 ∙ (ap items walking.variables ∙ begun.variables) in
-        came_stopped (walked f (limits_of a kinds) g os) s (content_of e ks) x r went sizes.1 (content_is (vec_items m.variables) same)
+        came_stopped (walked f (limits_of a) g os) s (content_of e) x r went sizes.1 (content_is (vec_items m.variables) same)
 
-    keeps : (x : Result (Unit {0}) Refusal) → w.ended ≡ x → CheckedOld (old_of_global g os) → (n : Sizes) → r ≡ Ok n → KeepsTrees (old_of_global g os) (content_of e ks).walk
+    keeps : (x : Result (Unit {0}) Refusal) → w.ended ≡ x → CheckedOld (old_of_global g os) → (n : Sizes) → r ≡ Ok n → KeepsTrees (old_of_global g os) (content_of e).walk
     keeps (Ok u) q checked n ok =
         subst (KeepsTrees (old_of_global g os)) (sym walk_is) (by_rules.keeps (new_of_inits (vec_items m.constants)) checked u q)
     keeps (Err x) q checked n ok =
         let sizes : Sized m z t e (Err x) r = subst (λ (y : Result (Unit {0}) Refusal). Sized m z t e y r) q closed.sized in
         absurd (subst is_err (sym sizes.1 ∙ ok) tt)
 
-    pub ending : Ending f g os kinds a ks (record { finished = e; kinds = w.kinds; sized = r })
+    pub ending : Ending f g os a (record { finished = e; sized = r })
     ending =
         record {
-          count = walking.count;
           came = came w.ended refl;
           keeps = keeps w.ended refl;
           tiled = rw (closed.walk.entries, closed.walk.operands) walking.tiled;
           total = rw (closed.walk.entries, closed.walk.operands) walking.total;
-          limits = same_limits t e kinds closed.room ∙ (walking.limits ∙ same_limits a b kinds begun.room);
+          limits = closed.room ∙ (walking.limits ∙ begun.room);
         }

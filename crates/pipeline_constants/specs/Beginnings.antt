@@ -20,11 +20,11 @@ pub record Fits (m : Source) (f : Finished) : Type 0 where
 
 -- b takes as much as a
 abbrev pub SameRoom : Finished → Finished → Type 0
-SameRoom a b = limits_of b 0 ≡ limits_of a 0
+SameRoom a b = limits_of b ≡ limits_of a
 
--- what a walk has written, as far as it is read afterwards
+-- what a walk has written
 abbrev pub walk_of : Finished → State
-walk_of f = (content_of f []).walk
+walk_of f = (content_of f).walk
 
 -- a walk can begin: no constant is mapped, and overrides and variables are as they come
 pub record Begun (m : Source) (a b : Finished) : Type 0 where
@@ -40,6 +40,7 @@ pub record SameWalk (a b : Finished) : Type 0 where
   pub constants : b.constants ≡ a.constants
   pub images : b.images ≡ a.images
   pub settled : b.settled ≡ a.settled
+  pub kinds : b.kinds ≡ a.kinds
 
 -- The variables have their inits' images and the sizes their numbers, after a walk that went to its end; after another all stays.
 abbrev pub Sized : Source → Sizes → Finished → Finished → Result (Unit {0}) Refusal → Result Sizes Refusal → Type 0
@@ -74,4 +75,5 @@ pub record Copied (m : Source) (a b : Finished) : Type 0 where
   pub variables : items b.variables ≡ vec_items m.variables
   pub images : written_of b.images ≡ numbers 0 (length (vec_items m.entries))
   pub settled : written_of b.settled ≡ []
+  pub kinds : items b.kinds ≡ []
   pub room : SameRoom a b

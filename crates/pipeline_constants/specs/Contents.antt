@@ -16,6 +16,7 @@ pub record Content : Type 0 where
   pub overrides : List Override
   pub variables : List (Option ℕ)
 
+-- the constants of a walk
 abbrev pub inits_in : State → List NewConstant
 inits_in s = s.tables.constants.list
 
@@ -57,6 +58,7 @@ with_init o init = record { id = o.id; name = o.name; scalar = o.scalar; init = 
 abbrev pub init_taken : List NewConstant → List ℕ → ℕ → Option ℕ
 init_taken cs settled p = option_and_then (λ c. option_map (λ (k : NewConstant). k.init) (slice_get cs c)) (slice_get settled p)
 
+-- the first, or else the second
 abbrev pub init_or : Option ℕ → Option ℕ → Option ℕ
 init_or (Some h) init = Some h
 init_or None init = init
@@ -70,6 +72,7 @@ abbrev pub taken_from : List NewConstant → List ℕ → ℕ → List Override 
 taken_from cs settled p [] = []
 taken_from cs settled p (o ∷ os) = taken cs settled p o ∷ taken_from cs settled (p + 1) os
 
+-- all of them
 abbrev pub all_taken : State → List Override → List Override
 all_taken s os = taken_from (inits_in s) s.settled 0 os
 

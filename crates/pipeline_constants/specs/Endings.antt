@@ -25,11 +25,10 @@ Came (settles c zs) d (Err e) = ⊥
 Came (refuses c code values) d (Ok z) = ⊥
 Came (refuses c code values) d (Err e) = (d ≡ c) × (code_of e ≡ (code, values))
 
--- A settling of a module with overrides of these values, in finished tables f with room for so many kinds.
-pub record Ending (v : Meaning) (m : Global) (os : List Valued) (kinds : ℕ) (f : Finished) (ks : List ExpressionKind) (e : Ended) : Type 0 where
-  pub count : length ks ≡ e.kinds
-  pub came : Came (after_walk m (walked v (limits_of f kinds) m os)) (content_of e.finished ks) e.sized
-  pub keeps : CheckedOld (old_of_global m os) → (n : Sizes) → e.sized ≡ Ok n → KeepsTrees (old_of_global m os) (content_of e.finished ks).walk
+-- A settling of a module with overrides of these values, in finished tables f.
+pub record Ending (v : Meaning) (m : Global) (os : List Valued) (f : Finished) (e : Ended) : Type 0 where
+  pub came : Came (after_walk m (walked v (limits_of f) m os)) (content_of e.finished) e.sized
+  pub keeps : CheckedOld (old_of_global m os) → (n : Sizes) → e.sized ≡ Ok n → KeepsTrees (old_of_global m os) (content_of e.finished).walk
   pub tiled : Tiled (items e.finished.entries) (length (items e.finished.operands))
   pub total : length (items e.finished.operands) ≡ operand_total (nodes (items e.finished.entries) (items e.finished.operands))
-  pub limits : limits_of e.finished kinds ≡ limits_of f kinds
+  pub limits : limits_of e.finished ≡ limits_of f

@@ -37,21 +37,21 @@ pub record Stays (a b : Module) : Type 0 where
   pub source : b.source ≡ a.source
   pub room : room_of b ≡ room_of a
 
--- The runs of the finished entries: those of the module, where it has no overrides; else they tile the finished operand list, in
--- whatever order.
+-- The runs of the finished entries: those of the module, where it has no overrides; else they tile the finished operand list. In which
+-- order they lie, and where an empty one does, is left open: it is the one freedom.
 abbrev pub RunsBy : List Override → Module → Module → Type 0
 RunsBy [] a b = (items b.finished.entries ≡ vec_items a.source.entries) × (items b.finished.operands ≡ vec_items a.source.operands)
 RunsBy (o ∷ os) a b = Tiled (items b.finished.entries) (length (items b.finished.operands))
 
+-- the runs of a module's finished entries
 abbrev pub Runs : Module → Module → Type 0
 Runs a b = RunsBy (vec_items a.source.overrides) a b
 
--- The rules settle module a with these values, and all that is finished and the sizes are theirs. What is left of the kinds is not said.
+-- The rules settle module a with these values, and all that is finished and the sizes are theirs.
 -- The tree of each handle's image over the finished tables is the handle's own tree over the module's, overrides read at these values.
 pub record SettledAs (f : Meaning) (a : Module) (os : List Valued) (s : Settled) : Type 0 where
-  pub kinds : List ExpressionKind
-  pub rules : Came (settling f (room_of a) (tables_of a) os) (content_of s.module.finished kinds) (Ok s.module.sizes)
-  pub trees : KeepsTrees (old_of_global (tables_of a) os) (content_of s.module.finished kinds).walk
+  pub rules : Came (settling f (room_of a) (tables_of a) os) (content_of s.module.finished) (Ok s.module.sizes)
+  pub trees : KeepsTrees (old_of_global (tables_of a) os) (content_of s.module.finished).walk
   pub runs : Runs a s.module
   pub stays : Stays a s.module
 
@@ -60,11 +60,11 @@ pub record Untouched (a : Module) (e : Refused) : Type 0 where
   pub module_as_it_was : e.module ≡ a
   pub written : e.written ≡ counts no_content
 
--- the rules refuse module a in the walk or at the sizes, and what was written by then is theirs
+-- The rules refuse module a in the walk or at the sizes, and what was written by then is theirs: the variables have their old inits if
+-- the walk stopped, and their images' if a size is refused.
 pub record StoppedAs (f : Meaning) (a : Module) (os : List Valued) (e : Refused) : Type 0 where
-  pub kinds : List ExpressionKind
-  pub rules : Came (settling f (room_of a) (tables_of a) os) (content_of e.module.finished kinds) (Err e.refusal)
-  pub written : e.written ≡ counts (content_of e.module.finished kinds)
+  pub rules : Came (settling f (room_of a) (tables_of a) os) (content_of e.module.finished) (Err e.refusal)
+  pub written : e.written ≡ counts (content_of e.module.finished)
   pub runs : Runs a e.module
   pub sizes : e.module.sizes ≡ a.sizes
   pub stays : Stays a e.module
@@ -75,7 +75,8 @@ Answered f a os (Ok s) = SettledAs f a os s
 Answered f a os (Err e) = StoppedAs f a os e
 
 -- The file and the module are accepted, and there is room for what a settling begins with: the rules decide, at the values of the file.
-pub record Accepted (f : Meaning) (file : List ℕ) (a : Module) (r : Result Settled Refused) : Type 0 where
+-- There is one list of such values.
+pub record Decided (f : Meaning) (file : List ℕ) (a : Module) (r : Result Settled Refused) : Type 0 where
   pub clean : Clean file (tables_of a)
   pub room : full_at_first (room_of a) (tables_of a) ≡ None
   pub given : Given
@@ -97,10 +98,10 @@ pub record Rejected (file : List ℕ) (a : Module) (e : Refused) : Type 0 where
   pub untouched : Untouched a e
 
 -- refused before a settling begins
-abbrev pub Unsettled : List ℕ → Module → Result Settled Refused → Type 0
-Unsettled file a (Ok s) = ⊥
-Unsettled file a (Err e) = Rejected file a e ⊎ Crowded file a e
+abbrev pub RefusedAtFirst : List ℕ → Module → Result Settled Refused → Type 0
+RefusedAtFirst file a (Ok s) = ⊥
+RefusedAtFirst file a (Err e) = Rejected file a e ⊎ Crowded file a e
 
 -- What `settle` gives: the three exclude one another, and each leaves one answer.
 abbrev pub Settles : Meaning → List ℕ → Module → Result Settled Refused → Type 0
-Settles f file a r = Unsettled file a r ⊎ Accepted f file a r
+Settles f file a r = RefusedAtFirst file a r ⊎ Decided f file a r

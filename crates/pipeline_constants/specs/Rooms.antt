@@ -22,6 +22,7 @@ within r variables =
       kinds = min r.kinds 65536;
     }
 
+-- the same as the limits of tables
 abbrev pub limits_in : Room → Limits
 limits_in r =
     record {

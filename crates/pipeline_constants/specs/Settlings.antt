@@ -42,6 +42,7 @@ full_for_walk r m =
     (full_or 3 r.overrides (length m.overrides)
     (full_or 4 r.variables (length m.variables) None))
 
+-- the table, by whether there are overrides
 abbrev pub full_by : List Override → Limits → Global → Option ℕ
 full_by [] r m = full_for_copies r m
 full_by (o ∷ os) r m = full_for_walk r m
@@ -55,6 +56,7 @@ abbrev pub sized_as : Content → Sizing → Answer
 sized_as c (sized zs) = settles c zs
 sized_as c (unsized code values) = refuses c code values
 
+-- where the walk stopped that is the answer; else the sizes decide
 abbrev pub after_walk : Global → Outcome → Answer
 after_walk m (stops s code values) = refuses (stopped m s) code values
 after_walk m (goes s) = sized_as (ended m s) (sizing s 0 m.sizes)

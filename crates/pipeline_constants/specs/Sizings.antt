@@ -6,10 +6,18 @@ use Rattle.layers.specs.Values.{behind}
 use Rattle.walking.specs.States.{State}
 use Rattle.walking.specs.Images.{image_of}
 
--- the numbers that a literal of this type may give a size lie below this: all of a U32's (type 4), an I32's (type 3) that are not negative
-abbrev pub numbers_below : ℕ → ℕ
-numbers_below type = cond (type == 4) 4294967296 (cond (type == 3) 2147483648 0)
+-- the types of the literals that may give a size
+abbrev pub i32 : ℕ
+i32 = 3
 
+abbrev pub u32 : ℕ
+u32 = 4
+
+-- the numbers that a literal of this type may give a size lie below this: all of a U32's, and an I32's that are not negative
+abbrev pub numbers_below : ℕ → ℕ
+numbers_below type = cond (type == u32) 4294967296 (cond (type == i32) 2147483648 0)
+
+-- the number that a literal is for a size
 abbrev pub number_of : Value → Option ℕ
 number_of v = cond (nat_lt v.bits (numbers_below v.ty)) (Some v.bits) None
 
@@ -17,6 +25,7 @@ number_of v = cond (nat_lt v.bits (numbers_below v.ty)) (Some v.bits) None
 abbrev pub least_at : ℕ → ℕ
 least_at at = cond (nat_lt at 3) 1 0
 
+-- a number that is not below the least
 abbrev pub admitted : ℕ → ℕ → Option ℕ
 admitted least n = cond (nat_lt n least) None (Some n)
 
@@ -29,6 +38,7 @@ abbrev pub size_by : State → ℕ → ℕ → Option ℕ → Option ℕ
 size_by s least value None = Some value
 size_by s least value (Some h) = number_behind s least h
 
+-- the number of a size
 abbrev pub size_at : State → ℕ → Size → Option ℕ
 size_at s least z = size_by s least z.value z.handle
 
@@ -41,6 +51,7 @@ pub data Sizing : Type 0 where
 abbrev pub refused_at : ℕ → Sizing
 refused_at at = cond (nat_lt at 3) (unsized 15 (at ∷ [])) (unsized 16 ((at - 3) ∷ []))
 
+-- a size before those that come after it
 abbrev pub before : Size → Sizing → Sizing
 before z (sized zs) = sized (z ∷ zs)
 before z (unsized code values) = unsized code values

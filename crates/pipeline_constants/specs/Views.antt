@@ -17,6 +17,7 @@ use Rattle.pipeline_constants.specs.Settlings.{Limits}
 abbrev pub written_of : Slots → List ℕ
 written_of s = take s.written (vec_items s.values)
 
+-- how many may be written
 abbrev pub places_of : Slots → ℕ
 places_of s = length (vec_items s.values)
 
@@ -29,21 +30,21 @@ state_of es cs images settled ks =
       settled = settled;
     }
 
--- what the finished tables hold, with these kinds
-abbrev pub content_of : Finished → List ExpressionKind → Content
-content_of f ks =
+-- what the finished tables hold
+abbrev pub content_of : Finished → Content
+content_of f =
     record {
-      walk = state_of (nodes (items f.entries) (items f.operands)) (items f.constants) (written_of f.images) (written_of f.settled) ks;
+      walk = state_of (nodes (items f.entries) (items f.operands)) (items f.constants) (written_of f.images) (written_of f.settled) (items f.kinds);
       overrides = items f.overrides;
       variables = items f.variables;
     }
 
--- how much they take, with room for so many kinds
-abbrev pub limits_of : Finished → ℕ → Limits
-limits_of f kinds =
+-- how much they take
+abbrev pub limits_of : Finished → Limits
+limits_of f =
     record {
       walk = record {
-        tables = record { entries = limit f.entries; operands = limit f.operands; kinds = kinds };
+        tables = record { entries = limit f.entries; operands = limit f.operands; kinds = limit f.kinds };
         constants = limit f.constants;
         images = places_of f.images;
         settled = places_of f.settled;
@@ -68,15 +69,17 @@ counts c =
 
 -- ---- a module
 
+-- the tables and sizes as they stand
 abbrev pub tables_of : Module → Global
 tables_of m = global m.source m.sizes
 
+-- the room for what is finished
 abbrev pub room_of : Module → Limits
-room_of m = limits_of m.finished (length (vec_items m.kinds))
+room_of m = limits_of m.finished
 
--- how much is written, with so many kinds
-abbrev pub written_in : Finished → ℕ → Written
-written_in f kinds =
+-- how much is written, read off the tables
+abbrev pub written_in : Finished → Written
+written_in f =
     record {
       entries = length (items f.entries);
       operands = length (items f.operands);
@@ -85,5 +88,5 @@ written_in f kinds =
       variables = length (items f.variables);
       images = length (written_of f.images);
       settled = length (written_of f.settled);
-      kinds = kinds;
+      kinds = length (items f.kinds);
     }

@@ -27,11 +27,10 @@ old_in o cs =
       overrides = o.overrides.now;
     }
 
--- A walk from tables a, ks and cs, with images and overrides' constants in these slots, left them as b, ds, js and ss.
-abbrev pub WalkedOver : Meaning → Read → Arena → List ExpressionKind → Table NewConstant → List ℕ → List ℕ → Arena → Table NewConstant → List ℕ → List ℕ → Walked → Type 0
-WalkedOver f o a ks cs is ss b ds js ts w =
-    (ls : List ExpressionKind) × (length ls ≡ w.kinds)
-    × WalkedAs f (room_of_slices a ks cs is ss) (old_in o (items cs)) (items cs) (state_of (nodes_of b) (items ds) (take w.images js) (take w.settled ts) ls) w.ended
+-- A walk from tables a, ks and cs, with images and overrides' constants in these slots, left them as b, ls, ds, js and ts.
+abbrev pub WalkedOver : Meaning → Read → Arena → List ExpressionKind → Table NewConstant → List ℕ → List ℕ → Arena → Table ExpressionKind → Table NewConstant → List ℕ → List ℕ → Walked → Type 0
+WalkedOver f o a ks cs is ss b ls ds js ts w =
+    WalkedAs f (room_of_slices a ks cs is ss) (old_in o (items cs)) (items cs) (state_of (nodes_of b) (items ds) (take w.images js) (take w.settled ts) (items ls)) w.ended
 
 -- what is read of a module with these values, with constants that have these inits
 abbrev pub old_of : Source → List Valued → List NewConstant → Old
@@ -42,12 +41,11 @@ old_of m values cs =
       overrides = values;
     }
 
--- A walk over a module in finished tables a, with room for so many kinds, left them as b.
-pub record Walking (f : Meaning) (m : Source) (values : List Valued) (kinds : ℕ) (a : Finished) (ks : List ExpressionKind) (b : Finished) (w : Walked) : Type 0 where
-  pub count : length ks ≡ w.kinds
-  pub walked : WalkedAs f (limits_of a kinds).walk (old_of m values (items a.constants)) (items a.constants) (content_of b ks).walk w.ended
+-- A walk over a module in finished tables a left them as b.
+pub record Walking (f : Meaning) (m : Source) (values : List Valued) (a b : Finished) (w : Walked) : Type 0 where
+  pub walked : WalkedAs f (limits_of a).walk (old_of m values (items a.constants)) (items a.constants) (content_of b).walk w.ended
   pub tiled : Tiled (items b.entries) (length (items b.operands))
   pub total : length (items b.operands) ≡ operand_total (nodes (items b.entries) (items b.operands))
-  pub limits : limits_of b kinds ≡ limits_of a kinds
+  pub limits : limits_of b ≡ limits_of a
   pub overrides : b.overrides ≡ a.overrides
   pub variables : b.variables ≡ a.variables

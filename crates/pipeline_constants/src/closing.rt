@@ -41,6 +41,7 @@ impl Finished {
         number_all(&mut self.images.values, source.entries.len());
         self.images.written = source.entries.len();
         self.settled.written = 0;
+        self.kinds.clear();
     }
 
     // The sizes, by the literals behind their images.

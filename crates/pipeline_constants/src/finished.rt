@@ -3,7 +3,7 @@ ghost use Rattle.std.specs.Prelude.{◌≡◌, vec_items};
 
 use crate::slots::Slots;
 use arena::{Entry, Handle, Table};
-use evaluator::NewConstant;
+use evaluator::{ExpressionKind, NewConstant};
 use ir::Override;
 
 // What a settling has written: entries and their operands, constants, overrides with the inits that they took, the variables' inits, the
@@ -17,9 +17,11 @@ pub struct Finished {
     pub(crate) variables: Table<Option<Handle>>,
     pub(crate) images: Slots,
     pub(crate) settled: Slots,
+    pub(crate) kinds: Table<ExpressionKind>,
 }
 
-// How many items of each finished table a settling wrote before it was refused.
+// How many items of each finished table were written when a settling was refused. In a walk constants, overrides and variables begin as
+// copies, which count.
 #[derive(Clone, Copy, PartialEq, Eq, Debug)]
 pub struct Written {
     pub entries: usize,
@@ -81,9 +83,16 @@ impl Finished {
         self.settled.as_slice()
     }
 
-    // How much is written, with so many kinds.
-    pub(crate) fn written(&self, kinds: usize) -> Written
-        ensures { result ≡ written_in self.now kinds }
+    // The kind of each entry. Where the tables were copied there are none.
+    pub fn kinds(&self) -> &[ExpressionKind]
+        ensures { result.now ≡ items self.now.kinds }
+    {
+        self.kinds.as_slice()
+    }
+
+    // How much is written.
+    pub(crate) fn written(&self) -> Written
+        ensures { result ≡ written_in self.now }
     {
         Written {
             entries: self.entries.len(),
@@ -93,7 +102,7 @@ impl Finished {
             variables: self.variables.len(),
             images: self.images.as_slice().len(),
             settled: self.settled.as_slice().len(),
-            kinds,
+            kinds: self.kinds.len(),
         }
     }
 }

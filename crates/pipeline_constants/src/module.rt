@@ -25,6 +25,7 @@ pub struct Module {
     ghost operands: { length (vec_items source.operands) ≤ bound scratch },
     ghost overrides: { length (vec_items source.overrides) ≤ bound values },
     ghost tables: { (bound finished.entries ≤ 65536) × (bound finished.operands ≤ 262144) },
+    ghost recordable: { length (vec_items kinds) ≡ bound finished.kinds },
     ghost handles: { (bound finished.constants ≤ 65536) × (length (vec_items finished.images.values) ≤ 65536) },
 }
 
@@ -57,6 +58,7 @@ impl Finished {
             variables: Table::with_limit(heap, room.variables)?,
             images: Slots::with_limit(heap, room.handles as usize)?,
             settled: Slots::with_limit(heap, room.settled as usize)?,
+            kinds: Table::with_limit(heap, room.kinds as usize)?,
         })
     }
 }
@@ -96,7 +98,7 @@ impl Module {
         &self.sizes
     }
 
-    // What settlings have written so far; an accepted one writes all of it anew.
+    // What settlings have written so far. Each that begins writes all of it anew; one that is refused before that leaves it as it was.
     pub fn finished(&self) -> &Finished
         ensures { result.now ≡ self.now.finished }
     {

@@ -12,16 +12,14 @@ use refusals::Refusal;
 use settings::Settings;
 use walking::Valued;
 
-// What a settling with overrides came to: what is finished, how many kinds were written, and the sizes or the refusal.
+// What a settling with overrides came to: what is finished, and the sizes or the refusal.
 #[derive(Drop)]
 pub(crate) struct Ended {
     pub(crate) finished: Finished,
-    pub(crate) kinds: usize,
     pub(crate) sized: Result<Sizes, Refusal>,
 }
 
 impl Finished {
-    ghost use Rattle.evaluator.specs.declared.expression_kind.ExpressionKind.{ExpressionKind as Kind};
     ghost use Rattle.ir.specs.Tables.{global};
     ghost use Rattle.pipeline_constants.specs.Beginnings.{Fits};
     ghost use Rattle.pipeline_constants.specs.Endings.{Ending};
@@ -39,8 +37,9 @@ impl Finished {
         requires fits { Fits source.now self }
         requires wide { length (vec_items source.now.operands) ≤ bound scratch.old }
         requires small { (length (vec_items self.images.values) ≤ 65536) × (bound self.constants ≤ 65536) }
+        requires recordable { length (vec_items kinds.old) ≡ bound self.kinds }
         requires numbered { (bound self.entries ≤ 65536) × (bound self.operands ≤ 262144) }
-        ensures ended { (ks : List Kind) × Ending (F.verdict folder.now) (global source.now sizes.now) values.now (length (vec_items kinds.old)) self ks result }
+        ensures ended { Ending (F.verdict folder.now) (global source.now sizes.now) values.now self result }
         ensures wide { length (vec_items source.now.operands) ≤ bound scratch.new }
         ensures places { length (vec_items kinds.new) ≡ length (vec_items kinds.old) }
     {
@@ -48,11 +47,7 @@ impl Finished {
         begun.begin(source);
         let (mut finished, walked) = begun.walk(folder, source, values, scratch, kinds);
         let sized = finished.close(source, sizes, walked.ended);
-        Ended {
-            finished,
-            kinds: walked.kinds,
-            sized,
-        }
+        Ended { finished, sized }
     }
 }
 
@@ -154,7 +149,7 @@ impl Module {
                 Ok(Settled { module })
             }
             Err(refusal) => {
-                let written = finished.written(ended.kinds);
+                let written = finished.written();
                 let module = Module {
                     source,
                     sizes,
@@ -172,8 +167,9 @@ impl Module {
         }
     }
 
-    // Settles the module by a settings file: what the file and the tables are refused for comes first, with nothing written; then the
-    // tables are copied, or the entries walked. A refused module is given back, and can be settled again.
+    // Settles the module by a settings file. What the file and the tables are refused for comes first, and then a finished table without
+    // room for what a settling begins with: nothing is written. Then the tables are copied, or the entries walked and the sizes set. A
+    // refused module is given back, and can be settled again.
     pub fn settle<F: Folder>(self, file: &[u8], folder: &F) -> Result<Settled, Refused>
         ensures { Settles (F.verdict folder.now) file.now self result }
     {

@@ -1,5 +1,5 @@
 // The walk over a module's entries, in the finished tables.
-ghost use Rattle.std.specs.Prelude.{◌≡◌, ◌≤◌, List, length, vec_items};
+ghost use Rattle.std.specs.Prelude.{◌≡◌, ◌≤◌, length, vec_items};
 ghost use Rattle.arena.specs.Appends.{SameLimits};
 ghost use Rattle.arena.specs.Items.{limit as bound};
 
@@ -10,7 +10,6 @@ use ir::Source;
 use walking::{Old, Valued, Walked, walk_entries};
 
 impl Finished {
-    ghost use Rattle.evaluator.specs.declared.expression_kind.ExpressionKind.{ExpressionKind as Kind};
     ghost use Rattle.pipeline_constants.specs.Walks.{WalkedOver, Walking};
 
     // A walk over a module's entries, after its constants. What the tables held before of entries, images and overrides' constants is gone.
@@ -24,8 +23,9 @@ impl Finished {
     ) -> (Finished, Walked)
         requires wide { length (vec_items source.now.operands) ≤ bound scratch.old }
         requires small { (length (vec_items self.images.values) ≤ 65536) × (bound self.constants ≤ 65536) }
+        requires recordable { length (vec_items kinds.old) ≡ bound self.kinds }
         requires numbered { (bound self.entries ≤ 65536) × (bound self.operands ≤ 262144) }
-        ensures walked { (ks : List Kind) × Walking (F.verdict folder.now) source.now values.now (length (vec_items kinds.old)) self ks result.0 result.1 }
+        ensures walked { Walking (F.verdict folder.now) source.now values.now self result.0 result.1 }
         ensures wide { length (vec_items source.now.operands) ≤ bound scratch.new }
         ensures places { length (vec_items kinds.new) ≡ length (vec_items kinds.old) }
     {
@@ -37,6 +37,7 @@ impl Finished {
             variables,
             mut images,
             mut settled,
+            kinds: mut recorded,
         } = self;
         let Some(mut expressions) = Arena::over(entries, operands) else {
             unreachable!()
@@ -52,6 +53,7 @@ impl Finished {
             scratch,
             &mut expressions,
             kinds,
+            &mut recorded,
             &mut constants,
             &mut images.values,
             &mut settled.values,
@@ -67,6 +69,7 @@ impl Finished {
             variables,
             images,
             settled,
+            kinds: recorded,
         };
         (finished, walked)
     }
@@ -78,15 +81,17 @@ impl Finished {
         scratch: &mut Table<Handle>,
         expressions: &mut Arena,
         kinds: &mut Vec<ExpressionKind>,
+        recorded: &mut Table<ExpressionKind>,
         constants: &mut Table<NewConstant>,
         images: &mut Vec<Handle>,
         settled: &mut Vec<u32>,
     ) -> Walked
         requires wide { length old.operands.now ≤ bound scratch.old }
         requires small { (length (vec_items images.old) ≤ 65536) × (bound constants.old ≤ 65536) }
+        requires recordable { length (vec_items kinds.old) ≤ bound recorded.old }
         ensures walked { WalkedOver (F.verdict folder.now) old.entry expressions.old (vec_items kinds.old) constants.old (vec_items images.old) (vec_items settled.old)
-            expressions.new constants.new (vec_items images.new) (vec_items settled.new) result }
-        ensures limits { SameLimits expressions.old expressions.new × (bound constants.new ≡ bound constants.old) }
+            expressions.new recorded.new constants.new (vec_items images.new) (vec_items settled.new) result }
+        ensures limits { SameLimits expressions.old expressions.new × (bound constants.new ≡ bound constants.old) × (bound recorded.new ≡ bound recorded.old) }
         ensures places { (length (vec_items kinds.new) ≡ length (vec_items kinds.old)) × (length (vec_items images.new) ≡ length (vec_items images.old)) × (length (vec_items settled.new) ≡ length (vec_items settled.old)) }
         ensures wide { length old.entry.operands.now ≤ bound scratch.new }
     {
@@ -96,6 +101,7 @@ impl Finished {
             scratch,
             expressions,
             kinds.as_mut_slice(),
+            recorded,
             constants,
             images.as_mut_slice(),
             settled.as_mut_slice(),

@@ -3,8 +3,5 @@ use Rattle.pipeline_constants.proofs.finished.Finished.settle.Goals as goal
 
 pub returns-clause-ended : goal.returns-clause-ended
 returns-clause-ended g c =
-    let w = c.walk-finished.ensures.walked in (
-      w.0,
-      ending c.args.source.now c.args.sizes.now c.args.values.now _ _ _ c.begin.new.self c.walk-finished.result.0 c.close-sized.new.self w.0 c.walk-finished.result.1
-          c.close-sized.result c.begin.ensures w.1 c.close-sized.ensures,
-    )
+    ending c.args.source.now c.args.sizes.now c.args.values.now _ _ c.begin.new.self c.walk-finished.result.0 c.close-sized.new.self c.walk-finished.result.1
+    c.close-sized.result c.begin.ensures c.walk-finished.ensures.walked c.close-sized.ensures

@@ -12,7 +12,7 @@ returns-in-Ok g c =
     let ok : c.settle-ended.result.sized ≡ Ok c.in-Ok.sizes = search rules in (
       os,
       valued,
-      settled_walked (g.F.Folder.verdict c.args.folder.now) c.args.self os w.0 c.settle-ended.result c.requires.some w.1 _ refl refl c.settle-ended.ensures.places
+      settled_walked (g.F.Folder.verdict c.args.folder.now) c.args.self os c.settle-ended.result c.requires.some w _ refl refl
           (given c.args.settings.now) c.requires.accepted valued ok,
     )
 
@@ -24,6 +24,6 @@ returns-in-Err g c =
     let err : c.settle-ended.result.sized ≡ Err c.in-Err.refusal = search rules in (
       os,
       valued,
-      stopped_walked (g.F.Folder.verdict c.args.folder.now) c.args.self os w.0 c.settle-ended.result c.requires.some w.1 _ refl refl c.settle-ended.ensures.places
+      stopped_walked (g.F.Folder.verdict c.args.folder.now) c.args.self os c.settle-ended.result c.requires.some w _ refl refl
           c.in-Err.refusal c.written-written.result refl err c.written-written.ensures,
     )

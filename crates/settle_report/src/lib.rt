@@ -2,16 +2,16 @@
 #![tactic(auto)]
 
 mod changes;
-mod overrides;
 mod refused;
 mod settled;
 mod sizes;
 mod tables;
 #[cfg(test)]
 mod tests;
+mod told;
 
 pub use changes::Changes;
-pub use overrides::{identifier, outcomes};
 pub use refused::{Written, report_refused};
 pub use settled::{Settling, report_settled};
 pub use tables::{FinishedTables, finished_shader, write_finished};
+pub use told::{identifier, outcomes};

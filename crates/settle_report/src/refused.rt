@@ -1,5 +1,5 @@
 // The refusal of a settling, and what was written by then.
-use crate::overrides::put_label;
+use crate::told::put_label;
 use arena::Handle;
 use fold_report::put_node;
 use inspection::put_source_refusal;

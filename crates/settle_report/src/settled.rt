@@ -1,8 +1,8 @@
 // The report of a module that was settled: a listing, whose comments say what became of what.
 use crate::changes::Changes;
-use crate::overrides::{outcomes, put_overrides};
 use crate::sizes::{put_images, put_sizes};
 use crate::tables::{FinishedTables, write_finished};
+use crate::told::{outcomes, put_overrides};
 use ir::{Sizes, Source};
 use settings::Settings;
 use std::alloc::{AllocError, Global};

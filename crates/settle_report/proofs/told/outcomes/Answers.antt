@@ -3,7 +3,7 @@ use Rattle.std.proofs.lemmas.List.{take_all}
 use Rattle.settings.specs.Reading.{given}
 use Rattle.settle_report.specs.Outcomes.{AllBecame}
 use Rattle.settle_report.proofs.Became.{all_became_more}
-use Rattle.settle_report.proofs.overrides.outcomes.Goals as goal
+use Rattle.settle_report.proofs.told.outcomes.Goals as goal
 
 pub loop-item-init : goal.loop-item-init
 loop-item-init c = subst (λ l. AllBecame (given c.args.settings.now) (vec_items c.args.source.now.names) [] l) (sym c.new-all.ensures.items) tt

@@ -7,3 +7,4 @@ mod trees;
 
 pub use piles::Pile;
 pub use report::{FoldReportError, report_folds};
+pub use trees::put_node;

@@ -13,7 +13,7 @@ pub(crate) const DEPTH: u8 = 64;
 const LONGEST: usize = 4096;
 
 // The kind of an expression and its words, but for those that are 0 at the end.
-pub(crate) fn put_node(out: &mut String, kind: u8, words: [u32; 4]) -> Result<(), AllocError> {
+pub fn put_node(out: &mut String, kind: u8, words: [u32; 4]) -> Result<(), AllocError> {
     match kind_name(Sort::Expressions, kind) {
         Some(name) => out.push_str(name)?,
         None => write!(out, "{kind}")?,

@@ -130,6 +130,22 @@ fn put_note(out: &mut String, refusal: &Refusal, users: &[Users<'_>]) -> Result<
     }
 }
 
+// A refusal by its number and in words.
+fn put_refusal(out: &mut String, refusal: &Refusal, users: &[Users<'_>]) -> Result<(), AllocError> {
+    let code = refusal.code();
+    write!(out, "refusal {code}, {refusal}")?;
+    put_note(out, refusal, users)
+}
+
+// The same of a refusal of a module.
+pub fn put_source_refusal(
+    out: &mut String,
+    refusal: &Refusal,
+    source: &Source,
+) -> Result<(), AllocError> {
+    put_refusal(out, refusal, &module_users(source))
+}
+
 // The line of a verdict, after what it is said of.
 pub(crate) fn put_verdict(
     out: &mut String,
@@ -139,9 +155,8 @@ pub(crate) fn put_verdict(
     match verdict {
         Ok(()) => out.push_str(": well formed\n"),
         Err(refusal) => {
-            let code = refusal.code();
-            write!(out, ": refusal {code}, {refusal}")?;
-            put_note(out, refusal, users)?;
+            out.push_str(": ")?;
+            put_refusal(out, refusal, users)?;
             out.push('\n')
         }
     }

@@ -5,7 +5,8 @@ ghost use Rattle.report.specs.Outcomes.{Told};
 use crate::errors::{ReportError, TextError};
 use crate::outcomes::{Outcome, Tally, Unresolved, resolve};
 use crate::shown::{Label, LiteralText};
-use listing::{OverrideLine, ValueText, key_text, read_overrides};
+use crate::taken::{put_setting, put_taken};
+use listing::{OverrideLine, read_overrides};
 use settings::{Identifier, Setting, Settings, SettingsError, is_taken};
 use std::alloc::Global;
 use std::fmt::Write;
@@ -37,22 +38,6 @@ impl<'s> Writer<'s> {
         }
     }
 
-    // The key and the value at `i`, as a report names them.
-    fn put_setting(&mut self, i: usize, key: &[u8], value: f64) -> Result<(), TextError> {
-        let key = key_text(self.heap, key)?;
-        let value = ValueText(value);
-        write!(self.text, "key {i} `{key}` = {value}")?;
-        Ok(())
-    }
-
-    // The setting whose key an override takes.
-    fn put_taken(&mut self, i: usize, value: f64) -> Result<(), TextError> {
-        match self.settings.key(i) {
-            Some(key) => self.put_setting(i, key, value),
-            None => Ok(write!(self.text, "key {i} = {}", ValueText(value))?),
-        }
-    }
-
     fn put_outcome(&mut self, outcome: &Outcome) -> Result<(), TextError> {
         match *outcome {
             Outcome::Made {
@@ -60,7 +45,7 @@ impl<'s> Writer<'s> {
                 value,
                 literal,
             } => {
-                self.put_taken(key, value)?;
+                put_taken(&mut self.text, self.heap, self.settings, key, value)?;
                 let literal = LiteralText(literal);
                 writeln!(self.text, ", literal {literal}")?;
             }
@@ -72,7 +57,7 @@ impl<'s> Writer<'s> {
     fn put_refusal(&mut self, error: &Unresolved) -> Result<(), TextError> {
         match *error {
             Unresolved::Refused { key, value, .. } => {
-                self.put_taken(key, value)?;
+                put_taken(&mut self.text, self.heap, self.settings, key, value)?;
                 self.text.push_str(", ")?;
             }
             Unresolved::MissingValue => self.text.push_str("no value and no init, ")?,
@@ -85,7 +70,11 @@ impl<'s> Writer<'s> {
 
     fn put_override(&mut self, i: usize, line: &OverrideLine) -> Result<(), TextError> {
         let outcome = resolve(self.settings, line.identifier(), line.scalar, line.init);
-        let label = Label(line);
+        let label = Label {
+            id: line.id,
+            name: line.name.as_deref(),
+            scalar: line.scalar,
+        };
         write!(self.text, "override {i}, {label}: ")?;
         match &outcome {
             Ok(outcome) => self.put_outcome(outcome)?,
@@ -98,7 +87,7 @@ impl<'s> Writer<'s> {
     fn put_untaken(&mut self, who: &[Identifier<'_>]) -> Result<(), TextError> {
         for (i, Setting { key, value }) in (0..).zip(self.settings.iter()) {
             if !is_taken(key, who) {
-                self.put_setting(i, key, value)?;
+                put_setting(&mut self.text, self.heap, i, key, value)?;
                 let code = SettingsError::NotFound { key: i }.code();
                 writeln!(self.text, ", refusal {code}, no override takes it")?;
                 self.tally.count_untaken();

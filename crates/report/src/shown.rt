@@ -1,23 +1,27 @@
 // How the parts of a report look.
 use crate::outcomes::Tally;
-use listing::{OverrideLine, ScalarName, ValueText};
-use rounding::Literal;
+use listing::{ScalarName, ValueText};
+use rounding::{Literal, Scalar};
 use std::fmt;
 use std::num::{f32_from_bits_with_nan, f32_to_f64_with_nan, f64_from_bits_with_nan};
 
 // An override by its id, its name and its scalar.
 #[derive(Clone, Copy)]
-pub struct Label<'o>(pub &'o OverrideLine);
+pub struct Label<'o> {
+    pub id: Option<u16>,
+    pub name: Option<&'o str>,
+    pub scalar: Scalar,
+}
 
 impl fmt::Display for Label<'_> {
     fn fmt<W: fmt::Write>(&self, f: &mut fmt::Formatter<W>) -> fmt::Result {
-        if let Some(id) = self.0.id {
+        if let Some(id) = self.id {
             write!(f, "id {id}, ")?;
         }
-        if let Some(name) = &self.0.name {
+        if let Some(name) = self.name {
             write!(f, "name {name}, ")?;
         }
-        let scalar = ScalarName(self.0.scalar);
+        let scalar = ScalarName(self.scalar);
         write!(f, "{scalar}")
     }
 }

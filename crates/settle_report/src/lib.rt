@@ -1,0 +1,17 @@
+// What `settle` says: the finished tables as a listing, what each override became, and the refusal of a settling.
+#![tactic(auto)]
+
+mod changes;
+mod refused;
+mod settled;
+mod sizes;
+mod tables;
+#[cfg(test)]
+mod tests;
+mod told;
+
+pub use changes::Changes;
+pub use refused::{Written, report_refused};
+pub use settled::{Settling, report_settled};
+pub use tables::{FinishedTables, finished_shader, write_finished};
+pub use told::{identifier, outcomes};

@@ -386,7 +386,16 @@ pub fn settling(no: u64, seed: u64) -> Case {
         entries: 9,
         constants: 3,
     };
-    module(&mut start(no, seed), no, most)
+    let r = &mut start(no, seed);
+    let mut c = module(r, no, most);
+    for o in c.o.iter_mut() {
+        let taken = c.file.iter().any(|(k, _)| crate::model::takes(o, k));
+        if !taken && r.one_in(10) {
+            // no literal has it, which only a value shows
+            (o.kind, o.width) = [(0, 8), (1, 8), (3, 4), (2, 1), (1, 255)][r.below(5) as usize]
+        }
+    }
+    c
 }
 fn body_entry(r: &mut Rng, h: u64, constants: u64, overrides: u64) -> Entry {
     let kind = match r.below(10) {

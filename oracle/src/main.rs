@@ -9,6 +9,8 @@ reverse FILE         the same with the settings put into the map in the other or
 model FILE           the rules' answers
 both FILE            the two, one after the other
 diff SEED N          counts cases by outcome, and shows those in which naga and the rules differ
+list SEED            the stored list of settlings; what it covers goes to standard error
+differences SEED     the list of settlings in which naga and the rules differ
 values SEED N        conversions, naga's beside the rules'
 slots                the order in which naga looks up operands
 probe                what answers to cases do not show";
@@ -95,6 +97,8 @@ fn main() {
         Some("model") => cases().iter().for_each(|c| print!("{}", answer_text(&model::run(c)))),
         Some("both") => cases().iter().for_each(both),
         Some("diff") => diff(number(2, 1), number(3, 100000)),
+        Some("list") => list::list(number(2, 1)),
+        Some("differences") => list::differences(number(2, 1)),
         Some("values") => values::values(number(2, 1), number(3, 1000000)),
         Some("slots") => slots::slots(),
         Some("probe") => probe::run(),

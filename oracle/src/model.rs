@@ -1,6 +1,6 @@
 //! The rules over plain tables, written from docs/RULES.md alone, to be held against naga.
-//! Of the refusals 1 to 5 and 17 only one is here, 4 for a constant whose init is not below the entry that names it: apart from it
-//! the cases are well formed, and the tables have room.
+//! Of the refusals 1 to 5 and 17 only one is here, 4 for what an entry names: apart from that the cases are well formed, and the tables
+//! have room.
 use crate::tables::*;
 
 struct T<'a> {
@@ -227,7 +227,7 @@ pub fn number(key: &[u8]) -> Option<u16> {
     }
     std::str::from_utf8(key).unwrap().parse::<u16>().ok()
 }
-fn takes(o: &Over, key: &[u8]) -> bool {
+pub fn takes(o: &Over, key: &[u8]) -> bool {
     match (o.id, &o.name) {
         (Some(i), _) => number(key) == Some(i),
         (None, Some(n)) => n == key,
@@ -333,13 +333,18 @@ fn walk(c: &Case, a: &mut Answer, mapped: &mut Vec<bool>) -> Result<(), Vec<u32>
     }
     Ok(())
 }
-/// The first entry that names a constant whose init is not below it.
-fn names_too_early(c: &Case) -> Option<usize> {
-    (0..c.g.len()).find(|h| c.g[*h].kind == 24 && c.c[c.g[*h].words[0] as usize] as usize >= *h)
+/// Whether an entry names a constant or an override that is not there, or a constant whose init is not below it.
+fn misnames(c: &Case, h: usize) -> bool {
+    let number = c.g[h].words[0] as usize;
+    match c.g[h].kind {
+        24 => number >= c.c.len() || c.c[number] as usize >= h,
+        25 => number >= c.o.len(),
+        _ => false,
+    }
 }
 pub fn run(c: &Case) -> Answer {
     let mut a = Answer::empty(c.no);
-    if let Some(h) = names_too_early(c) {
+    if let Some(h) = (0..c.g.len()).find(|h| misnames(c, *h)) {
         a.settle = Outcome::Refused(vec![4, 0, h as u32]);
         return a;
     }

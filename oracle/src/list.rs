@@ -27,6 +27,7 @@ const HEADER: &str = "\
 #   Z                                               the sizes
 #   H, M                                            the image of each old handle, the constant of each override
 # On a refusal these lines have what was written by then, and there is no Z.
+# The last line says how many cases there are.
 # A `-` is none, or an absent operand. A name or key is ' and its characters, or x and two hexadecimal digits for each byte.
 # oracle/README.md says how the list was made, what of naga was run, and what stood in for the rest.
 # In none of these cases does naga's answer differ from the rules, or depend on the order of its map of settings.
@@ -321,7 +322,12 @@ pub fn list(seed: u64) {
         }
         i += 1
     }
-    print!("{}#\n{}#\n{}", HEADER, list.coverage("# "), list.text);
+    print!(
+        "{HEADER}#\n{}#\n{}cases {}\n",
+        list.coverage("# "),
+        list.text,
+        list.count
+    );
     eprint!("{}", list.coverage(""))
 }
 
@@ -519,5 +525,5 @@ pub fn differences(seed: u64) {
             text += &block(&c, &rules)
         }
     }
-    print!("{DIFFERENCES_HEADER}{text}")
+    print!("{DIFFERENCES_HEADER}{text}cases {count}\n")
 }

@@ -290,6 +290,8 @@ pub fn parse_cases(text: &str) -> Vec<Case> {
                 }
             }
             "k" => c.file.push((name_bytes(f[1]), double_bits(f[2]))),
+            // the last line of a list; what stands in capitals is an answer
+            "cases" | "settle" | "G" | "GK" | "C" | "O" | "V" | "Z" | "H" | "M" => {}
             "end" => out.push(std::mem::take(&mut c)),
             x => panic!("line kind {x}"),
         }
@@ -320,7 +322,8 @@ pub fn settled_text(a: &Answer) -> String {
     s += &list_line("O", &a.o);
     s += &list_line("V", &a.v);
     if a.settle == Outcome::Ok {
-        s += &list_line("Z", &a.sizes)
+        let sizes = a.sizes.map(|x| x.to_string()).join(" ");
+        writeln!(s, "Z {sizes}").unwrap()
     }
     s += &list_line("H", &a.h);
     s += &list_line("M", &a.m);

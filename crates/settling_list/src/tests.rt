@@ -195,149 +195,121 @@ fn mapped(init: u32) -> NewConstant {
     NewConstant { init, mapped: true }
 }
 
-#[test]
-fn answers_are_compared(rt: HostRuntime) -> Result<(), Fail> {
-    let heap = rt.alloc();
+// The first case of the list.
+fn first_case(heap: Global) -> Result<Case, Fail> {
     let Ok(cases) = read(heap, LIST)? else {
         return Err(Fail::new("refused"));
     };
-    let [first, second] = cases.as_slice() else {
-        return Err(Fail::new("not two cases"));
-    };
-    let answer = &first.answer;
+    match cases.into_iter().next() {
+        Some(case) => Ok(case),
+        None => Err(Fail::new("no case")),
+    }
+}
+
+// Changes a part of an answer where nothing was refused.
+fn change(part: Part, answer: &mut Answer) -> Result<(), AllocError> {
+    match part {
+        Part::Outcome | Part::Counts => answer.ended = Err(Refusal::NotFound { key: 1 }),
+        Part::Entries => answer.operands.push(0)?,
+        Part::Constants => answer.constants.push(0)?,
+        Part::Overrides => answer.overrides.push(None)?,
+        Part::Variables => answer.variables.push(None)?,
+        Part::Sizes => answer.ended = Ok([99, 2, 3, 4, 6]),
+        Part::Images => answer.images.push(0)?,
+        Part::Settled => answer.settled.push(0)?,
+    }
+    Ok(())
+}
+
+// A settling that gives the answer of the first case, before each part of that answer in turn is changed.
+#[test]
+fn answers_are_compared(rt: HostRuntime) -> Result<(), Fail> {
+    let heap = rt.alloc();
+    let case = first_case(heap)?;
     let constants = [mapped(0), mapped(1)];
-    let mut sizes = first.sizes;
+    let overrides = case.source.overrides.as_slice();
+    let mut sizes = case.sizes;
     sizes.workgroup[0].value = 99;
-    let mut overrides = vec![in heap; first.source.overrides[0], first.source.overrides[1]]?;
-    overrides[0].id = None;
     let ours = Ours {
         refused: None,
+        entries: case.answer.entries.as_slice(),
+        operands: case.answer.operands.as_slice(),
+        constants: &constants,
+        overrides,
+        variables: case.answer.variables.as_slice(),
+        sizes,
+        images: case.answer.images.as_slice(),
+        settled: case.answer.settled.as_slice(),
+    };
+    let mut tally = Tally::new();
+    assert!(rt; tally.add(&case.answer, &ours) == None);
+    assert!(rt; tally.is_same());
+    for part in Part::ALL {
+        let mut changed = first_case(heap)?;
+        change(part, &mut changed.answer)?;
+        let differs = match part {
+            Part::Counts => Part::Outcome,
+            _ => part,
+        };
+        assert!(rt;
+            tally.add(&changed.answer, &ours) == Some(differs),
+            "{part:?}"
+        );
+    }
+    assert!(rt; !tally.is_same());
+    let text = format!(in heap; "{tally}")?;
+    let expected = "10 cases, 1 the same in all parts
+  accepted 8
+  refused with 6 2
+  outcomes: 10 compared, 8 the same
+  counts of what was written: 0 compared, 0 the same
+  finished entries with their operands: 10 compared, 9 the same
+  constants: 10 compared, 9 the same
+  overrides: 10 compared, 9 the same
+  variable inits: 10 compared, 9 the same
+  sizes: 8 compared, 7 the same
+  handle tables: 10 compared, 9 the same
+  overrides' constants: 10 compared, 9 the same
+";
+    assert_eq!(rt; text.as_str(), expected);
+    Ok(())
+}
+
+// What was written before a refusal is counted.
+#[test]
+fn counts_are_compared(rt: HostRuntime) -> Result<(), Fail> {
+    let heap = rt.alloc();
+    let case = first_case(heap)?;
+    let mut answer = case.answer;
+    let refusal = Refusal::MissingValue { number: 1 };
+    answer.ended = Err(refusal);
+    let counts = Counts {
+        entries: 2,
+        operands: 4,
+        kinds: 2,
+        constants: 2,
+        overrides: 2,
+        variables: 2,
+        images: 2,
+        settled: 2,
+    };
+    let constants = [mapped(0), mapped(1)];
+    let mut ours = Ours {
+        refused: Some((refusal, counts)),
         entries: answer.entries.as_slice(),
         operands: answer.operands.as_slice(),
         constants: &constants,
-        overrides: overrides.as_slice(),
+        overrides: case.source.overrides.as_slice(),
         variables: answer.variables.as_slice(),
-        sizes,
+        sizes: case.sizes,
         images: answer.images.as_slice(),
         settled: answer.settled.as_slice(),
     };
-    let mut tally = Tally::new();
-    assert!(rt; tally.add(answer, &ours) == None);
-    assert!(rt; tally.is_same());
-    let counts = Counts {
-        entries: 0,
-        operands: 0,
-        kinds: 0,
-        constants: 0,
-        overrides: 0,
-        variables: 0,
-        images: 0,
-        settled: 0,
-    };
-    let refusal = Refusal::NegativeWorkgroupSize { axis: Axis::Z };
-    let nothing = Ours {
-        refused: Some((refusal, counts)),
-        entries: &[],
-        operands: &[],
-        constants: &[],
-        overrides: &[],
-        variables: &[],
-        sizes: second.sizes,
-        images: &[],
-        settled: &[],
-    };
-    assert!(rt; tally.add(&second.answer, &nothing) == None);
-    let fewer = [mapped(0)];
-    let changes = [
-        (
-            Part::Outcome,
-            Ours {
-                refused: Some((refusal, counts)),
-                ..ours
-            },
-        ),
-        (
-            Part::Entries,
-            Ours {
-                operands: &[0, 0],
-                ..ours
-            },
-        ),
-        (
-            Part::Entries,
-            Ours {
-                entries: &[],
-                ..ours
-            },
-        ),
-        (
-            Part::Constants,
-            Ours {
-                constants: &fewer,
-                ..ours
-            },
-        ),
-        (
-            Part::Overrides,
-            Ours {
-                overrides: &[],
-                ..ours
-            },
-        ),
-        (
-            Part::Variables,
-            Ours {
-                variables: &[None, Some(1)],
-                ..ours
-            },
-        ),
-        (
-            Part::Sizes,
-            Ours {
-                sizes: first.sizes,
-                ..ours
-            },
-        ),
-        (
-            Part::Images,
-            Ours {
-                images: &[0, 1, 1],
-                ..ours
-            },
-        ),
-        (
-            Part::Settled,
-            Ours {
-                settled: &[3, 2],
-                ..ours
-            },
-        ),
-    ];
-    for (part, changed) in changes {
-        assert!(rt; agrees(part, answer, &changed) == Some(false), "{part:?}");
-        assert!(rt; tally.add(answer, &changed) == Some(part), "{part:?}");
-    }
-    let miscounted = Counts { kinds: 1, ..counts };
-    let changed = Ours {
-        refused: Some((refusal, miscounted)),
-        ..nothing
-    };
-    assert!(rt; tally.add(&second.answer, &changed) == Some(Part::Counts));
-    assert!(rt; !tally.is_same());
-    let text = format!(in heap; "{tally}")?;
-    let expected = "12 cases, 2 the same in all parts
-  accepted 10
-  refused with 15 2
-  outcomes: 12 compared, 11 the same
-  counts of what was written: 2 compared, 1 the same
-  finished entries with their operands: 12 compared, 10 the same
-  constants: 12 compared, 11 the same
-  overrides: 12 compared, 11 the same
-  variable inits: 12 compared, 11 the same
-  sizes: 9 compared, 8 the same
-  handle tables: 12 compared, 11 the same
-  overrides' constants: 12 compared, 11 the same
-";
-    assert_eq!(rt; text.as_str(), expected);
+    assert!(rt; Tally::new().add(&answer, &ours) == None);
+    ours.refused = Some((refusal, Counts { kinds: 1, ..counts }));
+    assert!(rt; agrees(Part::Counts, &answer, &ours) == Some(false));
+    ours.refused = Some((Refusal::MissingValue { number: 0 }, counts));
+    assert!(rt; agrees(Part::Outcome, &answer, &ours) == Some(false));
+    assert!(rt; agrees(Part::Sizes, &answer, &ours) == None);
     Ok(())
 }

@@ -1,4 +1,6 @@
 // An answer of the list beside what this repository's own settling gave.
+ghost use Rattle.std.specs.Prelude.{◌≡◌, map, Decides};
+
 use crate::cases::Answer;
 use arena::{Entry, Handle};
 use evaluator::NewConstant;
@@ -113,11 +115,19 @@ fn same_sizes(answer: &Answer, ours: &Ours<'_>) -> Option<bool> {
     Some(ours.sizes.all().map(|size| size.value) == sizes)
 }
 
-fn same_entries(answer: &Answer, ours: &Ours<'_>) -> bool {
-    answer.entries.as_slice() == ours.entries && answer.operands.as_slice() == ours.operands
+fn same_numbers(numbers: &[u32], ours: &[u32]) -> bool
+    ensures { Decides result (numbers.now ≡ ours.now) }
+{
+    numbers == ours
 }
 
-fn same_constants(inits: &[Handle], constants: &[NewConstant]) -> bool {
+fn same_entries(answer: &Answer, ours: &Ours<'_>) -> bool {
+    answer.entries.as_slice() == ours.entries && same_numbers(&answer.operands, ours.operands)
+}
+
+fn same_constants(inits: &[Handle], constants: &[NewConstant]) -> bool
+    ensures { Decides result (inits.now ≡ map (λ c. c.init) constants.now) }
+{
     inits.len() == constants.len()
         && inits
             .iter()
@@ -143,7 +153,7 @@ pub fn agrees(part: Part, answer: &Answer, ours: &Ours<'_>) -> Option<bool> {
         Part::Overrides => Some(same_overrides(&answer.overrides, ours.overrides)),
         Part::Variables => Some(answer.variables.as_slice() == ours.variables),
         Part::Sizes => same_sizes(answer, ours),
-        Part::Images => Some(answer.images.as_slice() == ours.images),
-        Part::Settled => Some(answer.settled.as_slice() == ours.settled),
+        Part::Images => Some(same_numbers(&answer.images, ours.images)),
+        Part::Settled => Some(same_numbers(&answer.settled, ours.settled)),
     }
 }

@@ -1,11 +1,12 @@
-// Prints what is said of each listing that it is given, and how long its written form is, which reads back as itself; and what the
-// expressions of one become.
+// Prints what is said of each listing that it is given, and how long its written form is, which reads back as itself; what the
+// expressions of one become; and what settling others by settings files gives.
 #![tactic(auto)]
 
-use anyhow::{Context, ensure};
+use anyhow::{Context, bail, ensure};
 use fold_report::{Pile, report_folds};
 use inspection::{report_listing, rewrite_listing};
 use settings::read_decimal;
+use settle_report::report_settling;
 use std::alloc::Global;
 use std::{env, fs};
 
@@ -46,21 +47,36 @@ fn show_folds(rt: &HostRuntime, path: &str, pile: &str, trees: &[&str]) -> anyho
     Ok(())
 }
 
-// Each listing is checked; what stands behind `fold` is folded.
+// What settling a listing by a settings file gives.
+fn show_settling(rt: &HostRuntime, listing: &str, pile: &str, settings: &str) -> anyhow::Result<()> {
+    let heap = rt.alloc();
+    let pile = Pile::named(pile).context("no such pile")?;
+    let text = fs::read_to_string(rt, listing).context(listing)?;
+    let file = fs::read(rt, settings).context(settings)?;
+    let report = report_settling(heap, text.as_str(), file.as_slice(), pile)?;
+    println!(rt; "{listing} by {settings}")?;
+    rt.print(report.text.as_str())?;
+    println!(rt; "")?;
+    Ok(())
+}
+
+// A step that the arguments ask for: a listing to check, or a command with its words.
+fn step(rt: &HostRuntime, words: &str) -> anyhow::Result<()> {
+    let heap = rt.alloc();
+    let words: Vec<&str> = words.split(' ').collect(heap)?;
+    match words.as_slice() {
+        ["check", path] => show(rt, path),
+        ["fold", path, pile, trees @ ..] => show_folds(rt, path, pile, trees),
+        ["settle", listing, pile, settings] => show_settling(rt, listing, pile, settings),
+        _ => bail!("no such step"),
+    }
+}
+
 fn main(rt: HostRuntime) -> anyhow::Result<()> {
     let heap = rt.alloc();
     let args: Vec<String> = env::args(&rt)?.skip(1).collect(heap)?;
-    let words: Vec<&str> = args.iter().map(|word| word.as_str()).collect(heap)?;
-    let words = words.as_slice();
-    let at = words
-        .iter()
-        .position(|word| *word == "fold")
-        .unwrap_or(words.len());
-    for path in &words[..at] {
-        show(&rt, path)?;
-    }
-    if let ["fold", path, pile, trees @ ..] = &words[at..] {
-        show_folds(&rt, path, pile, trees)?;
+    for words in &args {
+        step(&rt, words.as_str())?;
     }
     Ok(())
 }

@@ -4,6 +4,7 @@
 mod changes;
 mod refused;
 mod settled;
+mod settling;
 mod sizes;
 mod tables;
 #[cfg(test)]
@@ -11,7 +12,8 @@ mod tests;
 mod told;
 
 pub use changes::Changes;
-pub use refused::{Written, report_refused};
+pub use refused::report_refused;
 pub use settled::{Settling, report_settled};
+pub use settling::{Report, SettleReportError, report_settling};
 pub use tables::{FinishedTables, finished_shader, write_finished};
 pub use told::{identifier, outcomes};

@@ -4,6 +4,7 @@ use arena::Handle;
 use fold_report::put_node;
 use inspection::put_source_refusal;
 use ir::Source;
+use pipeline_constants::Written;
 use refusals::Refusal;
 use report::{Many, put_setting};
 use settings::Settings;
@@ -11,51 +12,41 @@ use std::alloc::{AllocError, Global};
 use std::fmt;
 use std::fmt::Write;
 
-// How much of each table is written.
-#[derive(Clone, Copy, PartialEq, Eq, Debug)]
-pub struct Written {
-    pub entries: usize,
-    pub operands: usize,
-    pub kinds: usize,
-    pub constants: usize,
-    pub overrides: usize,
-    pub variables: usize,
-    pub images: usize,
-    pub settled: usize,
+// How much of each table is written, as it is told.
+#[derive(Clone, Copy)]
+struct Told(Written);
+
+fn is_nothing(written: Written) -> bool {
+    let Written {
+        entries,
+        operands,
+        kinds,
+        constants,
+        overrides,
+        variables,
+        images,
+        settled,
+    } = written;
+    let counts = [
+        entries, operands, kinds, constants, overrides, variables, images, settled,
+    ];
+    counts.iter().all(|count| *count == 0)
 }
 
-impl Written {
-    fn is_nothing(&self) -> bool {
-        let Written {
-            entries,
-            operands,
-            kinds,
-            constants,
-            overrides,
-            variables,
-            images,
-            settled,
-        } = *self;
-        let counts = [
-            entries, operands, kinds, constants, overrides, variables, images, settled,
-        ];
-        counts.iter().all(|count| *count == 0)
-    }
-}
-
-impl fmt::Display for Written {
+impl fmt::Display for Told {
     fn fmt<W: fmt::Write>(&self, f: &mut fmt::Formatter<W>) -> fmt::Result {
-        if self.is_nothing() {
+        let written = self.0;
+        if is_nothing(written) {
             return f.write_str("nothing is written");
         }
-        let entries = Many(self.entries, "expression", "expressions");
-        let operands = Many(self.operands, "operand", "operands");
-        let kinds = Many(self.kinds, "kind", "kinds");
-        let constants = Many(self.constants, "constant", "constants");
-        let overrides = Many(self.overrides, "override", "overrides");
-        let variables = Many(self.variables, "variable init", "variable inits");
-        let images = Many(self.images, "image", "images");
-        let settled = self.settled;
+        let entries = Many(written.entries, "expression", "expressions");
+        let operands = Many(written.operands, "operand", "operands");
+        let kinds = Many(written.kinds, "kind", "kinds");
+        let constants = Many(written.constants, "constant", "constants");
+        let overrides = Many(written.overrides, "override", "overrides");
+        let variables = Many(written.variables, "variable init", "variable inits");
+        let images = Many(written.images, "image", "images");
+        let settled = written.settled;
         write!(
             f,
             "written by then: {entries}, {operands}, {kinds}, {constants}, "
@@ -132,6 +123,6 @@ pub fn report_refused(
     let mut out = String::new(heap);
     put_source_refusal(&mut out, &refusal, source)?;
     put_note(&mut out, heap, source, file, refusal)?;
-    writeln!(out, "\n{written}")?;
+    writeln!(out, "\n{}", Told(written))?;
     Ok(out)
 }

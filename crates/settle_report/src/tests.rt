@@ -2,6 +2,7 @@ use crate::*;
 use evaluator::NewConstant;
 use ir::{Size, Sizes};
 use places::{Place, TableName};
+use pipeline_constants::Written;
 use refusals::Refusal;
 use settings::Settings;
 use shader_text::{Shader, read_shader};

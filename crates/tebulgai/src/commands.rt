@@ -5,6 +5,7 @@ use crate::help::HELP;
 use fold_report::{Pile, report_folds};
 use inspection::{report_listing, rewrite_listing};
 use report::{ReportError, TextError, pack, report_literals, unpack};
+use settle_report::report_settling;
 use settings::read_decimal;
 use std::alloc::Global;
 use std::env;
@@ -91,6 +92,31 @@ fn run_fold(rt: &HostRuntime, listing: &str, options: &[&str]) -> Result<(), Fai
     Ok(())
 }
 
+// The pile behind a settling's files, or the usual one.
+fn read_pile(options: &[&str]) -> Result<Pile, Failure> {
+    match options {
+        [] => Ok(Pile::KeepWholeFind),
+        ["--pile", pile] => Pile::named(pile).ok_or(Failure::Usage),
+        _ => Err(Failure::Usage),
+    }
+}
+
+fn run_settle(
+    rt: &HostRuntime,
+    listing: &str,
+    settings: &str,
+    options: &[&str],
+) -> Result<(), Failure> {
+    let heap = rt.alloc();
+    let pile = read_pile(options)?;
+    let text = load_text(rt, listing)?;
+    let file = load(rt, settings)?;
+    let report = report_settling(heap, text.as_str(), file.as_slice(), pile);
+    let report = on_file(heap, listing, report)?;
+    rt.print(report.text.as_str())?;
+    refused(usize::from(report.is_refused))
+}
+
 fn run_help(rt: &HostRuntime) -> Result<(), Failure> {
     rt.print(HELP)?;
     Ok(())
@@ -108,6 +134,7 @@ pub(crate) fn run(rt: &HostRuntime) -> Result<(), Failure> {
         ["check", listing] => run_check(rt, listing),
         ["print", listing] => run_print(rt, listing),
         ["fold", listing, options @ ..] => run_fold(rt, listing, options),
+        ["settle", listing, settings, options @ ..] => run_settle(rt, listing, settings, options),
         ["help"] => run_help(rt),
         _ => Err(Failure::Usage),
     }

@@ -2,6 +2,7 @@
 use fold_report::FoldReportError;
 use inspection::InspectionError;
 use report::ReportError;
+use settle_report::SettleReportError;
 use std::alloc::AllocError;
 use std::io;
 use thiserror::Error;
@@ -19,6 +20,8 @@ pub enum FileError {
     Listing(#[from] InspectionError),
     #[error(transparent)]
     Fold(#[from] FoldReportError),
+    #[error(transparent)]
+    Settle(#[from] SettleReportError),
 }
 
 #[derive(Debug, Drop, Error)]

@@ -9,6 +9,8 @@ pub const HELP: &str = "tebulgai: values for the overrides of a shader module
   tebulgai print LISTING                 print a listing as it is written, with the index of each item
   tebulgai fold LISTING [--pile PILE] [--tree N]..
                                          what each expression of a module without overrides becomes
+  tebulgai settle LISTING SETTINGS [--pile PILE]
+                                         settle a module: its finished tables, what each override became
   tebulgai help                          print this
 
 A text of settings has a line `key = value` for each. A key is what stands before the first =,

@@ -30,6 +30,7 @@ fn ours(finished: &Finished, sizes: Sizes, refused: Option<(Refusal, Counts)>) -
         refused,
         entries: finished.entries(),
         operands: finished.operands(),
+        kinds: finished.kinds(),
         constants: finished.constants(),
         overrides: finished.overrides(),
         variables: finished.variables(),
@@ -133,7 +134,8 @@ fn main(rt: HostRuntime) -> anyhow::Result<()> {
         let path = path.as_str();
         let text = fs::read_to_string(&rt, path).context(path)?;
         let tally = replay(&rt, text.as_str()).context(path)?;
-        println!(rt; "{path}: {tally}")?;
+        let told = format!(in heap; "{path}: {tally}")?;
+        rt.print(told.as_str())?;
         ensure!(tally.is_same(), "not all answers are the same");
     }
     Ok(())

@@ -3,7 +3,7 @@ ghost use Rattle.std.specs.Prelude.{◌≡◌, map, Decides};
 
 use crate::cases::Answer;
 use arena::{Entry, Handle};
-use evaluator::NewConstant;
+use evaluator::{ExpressionKind, NewConstant};
 use ir::{Override, Sizes};
 use refusals::Refusal;
 
@@ -13,6 +13,7 @@ pub enum Part {
     Outcome,
     Counts,
     Entries,
+    Kinds,
     Constants,
     Overrides,
     Variables,
@@ -23,10 +24,11 @@ pub enum Part {
 
 impl Part {
     // In the order in which they are shown.
-    pub const ALL: [Part; 9] = [
+    pub const ALL: [Part; 10] = [
         Part::Outcome,
         Part::Counts,
         Part::Entries,
+        Part::Kinds,
         Part::Constants,
         Part::Overrides,
         Part::Variables,
@@ -40,6 +42,7 @@ impl Part {
             Part::Outcome => "outcomes",
             Part::Counts => "counts of what was written",
             Part::Entries => "finished entries with their operands",
+            Part::Kinds => "kinds",
             Part::Constants => "constants",
             Part::Overrides => "overrides",
             Part::Variables => "variable inits",
@@ -70,6 +73,7 @@ pub struct Ours<'t> {
     pub refused: Option<(Refusal, Counts)>,
     pub entries: &'t [Entry],
     pub operands: &'t [Handle],
+    pub kinds: &'t [ExpressionKind],
     pub constants: &'t [NewConstant],
     pub overrides: &'t [Override],
     pub variables: &'t [Option<Handle>],
@@ -125,6 +129,11 @@ fn same_entries(answer: &Answer, ours: &Ours<'_>) -> bool {
     answer.entries.as_slice() == ours.entries && same_numbers(&answer.operands, ours.operands)
 }
 
+// Every finished entry is Const.
+fn same_kinds(count: usize, kinds: &[ExpressionKind]) -> bool {
+    kinds.len() == count && kinds.iter().all(|kind| *kind == ExpressionKind::Const)
+}
+
 fn same_constants(inits: &[Handle], constants: &[NewConstant]) -> bool
     ensures { Decides result (inits.now ≡ map (λ c. c.init) constants.now) }
 {
@@ -149,6 +158,7 @@ pub fn agrees(part: Part, answer: &Answer, ours: &Ours<'_>) -> Option<bool> {
         Part::Outcome => Some(same_outcome(answer, ours)),
         Part::Counts => same_counts(answer, ours),
         Part::Entries => Some(same_entries(answer, ours)),
+        Part::Kinds => Some(same_kinds(answer.kinds, ours.kinds)),
         Part::Constants => Some(same_constants(&answer.constants, ours.constants)),
         Part::Overrides => Some(same_overrides(&answer.overrides, ours.overrides)),
         Part::Variables => Some(answer.variables.as_slice() == ours.variables),

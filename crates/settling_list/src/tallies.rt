@@ -16,7 +16,7 @@ pub struct Tally {
     cases: u64,
     same: u64,
     outcomes: [u64; 18],
-    parts: [Compared; 9],
+    parts: [Compared; 10],
 }
 
 fn outcome_of(answer: &Answer) -> u8 {
@@ -38,7 +38,7 @@ impl Tally {
             cases: 0,
             same: 0,
             outcomes: [0; 18],
-            parts: [Compared::default(); 9],
+            parts: [Compared::default(); 10],
         }
     }
 

@@ -1,6 +1,6 @@
 use crate::{Answer, Case, Counts, Fault, Ours, Part, Pile, Reader, Sprung, Tally, agrees};
 use arena::{ABSENT, Entry, Run, Span};
-use evaluator::NewConstant;
+use evaluator::{ExpressionKind, NewConstant};
 use ir::{Constant, Override, Size, Sizes, Source};
 use refusals::{Axis, Refusal};
 use rounding::{Scalar, ScalarKind};
@@ -211,6 +211,7 @@ fn change(part: Part, answer: &mut Answer) -> Result<(), AllocError> {
     match part {
         Part::Outcome | Part::Counts => answer.ended = Err(Refusal::NotFound { key: 1 }),
         Part::Entries => answer.operands.push(0)?,
+        Part::Kinds => answer.kinds = 1,
         Part::Constants => answer.constants.push(0)?,
         Part::Overrides => answer.overrides.push(None)?,
         Part::Variables => answer.variables.push(None)?,
@@ -234,6 +235,7 @@ fn answers_are_compared(rt: HostRuntime) -> Result<(), Fail> {
         refused: None,
         entries: case.answer.entries.as_slice(),
         operands: case.answer.operands.as_slice(),
+        kinds: &[ExpressionKind::Const; 2],
         constants: &constants,
         overrides,
         variables: case.answer.variables.as_slice(),
@@ -258,18 +260,19 @@ fn answers_are_compared(rt: HostRuntime) -> Result<(), Fail> {
     }
     assert!(rt; !tally.is_same());
     let text = format!(in heap; "{tally}")?;
-    let expected = "10 cases, 1 the same in all parts
-  accepted 8
+    let expected = "11 cases, 1 the same in all parts
+  accepted 9
   refused with 6 2
-  outcomes: 10 compared, 8 the same
+  outcomes: 11 compared, 9 the same
   counts of what was written: 0 compared, 0 the same
-  finished entries with their operands: 10 compared, 9 the same
-  constants: 10 compared, 9 the same
-  overrides: 10 compared, 9 the same
-  variable inits: 10 compared, 9 the same
-  sizes: 8 compared, 7 the same
-  handle tables: 10 compared, 9 the same
-  overrides' constants: 10 compared, 9 the same
+  finished entries with their operands: 11 compared, 10 the same
+  kinds: 11 compared, 10 the same
+  constants: 11 compared, 10 the same
+  overrides: 11 compared, 10 the same
+  variable inits: 11 compared, 10 the same
+  sizes: 9 compared, 8 the same
+  handle tables: 11 compared, 10 the same
+  overrides' constants: 11 compared, 10 the same
 ";
     assert_eq!(rt; text.as_str(), expected);
     Ok(())
@@ -298,6 +301,7 @@ fn counts_are_compared(rt: HostRuntime) -> Result<(), Fail> {
         refused: Some((refusal, counts)),
         entries: answer.entries.as_slice(),
         operands: answer.operands.as_slice(),
+        kinds: &[ExpressionKind::Const; 2],
         constants: &constants,
         overrides: case.source.overrides.as_slice(),
         variables: answer.variables.as_slice(),

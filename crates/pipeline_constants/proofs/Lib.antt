@@ -3,5 +3,6 @@ mod Five
 mod Taking
 mod Closings
 mod Walked
+mod Carrying
 mod Modules
 mod SameTrees

@@ -9,4 +9,5 @@ pub mod Lookups
 pub mod Walks
 pub mod Beginnings
 pub mod Endings
+pub mod Carried
 pub mod Laws

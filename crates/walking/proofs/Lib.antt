@@ -7,3 +7,4 @@ pub mod Mapped
 pub mod WholeWalk
 pub mod Accepting
 pub mod ModuleKeeps
+pub mod Numbering

@@ -6,3 +6,4 @@ mod Walked
 mod Carrying
 mod Modules
 mod SameTrees
+mod Once

@@ -11,3 +11,4 @@ pub mod Beginnings
 pub mod Endings
 pub mod Carried
 pub mod Laws
+pub mod Once

@@ -109,6 +109,36 @@ module _ (o : Old) (s : State) (keeps : KeepsTrees o s) where
       subst (OverrideAs o s p a) (sym is)
       (record { id = refl; name = refl; scalar = refl; init = h.0.init; there = ap (λ (i : Option ℕ). init_or i a.init) init; stands = h.3 })
 
+-- ---- the number of a size
+
+abbrev pub Admitted : ℕ → ℕ → Value → Type 0
+Admitted least n v = (v.bits ≡ n) × (v.bits < numbers_below v.ty) × (least ≤ n)
+
+pub admitted_is : (least n : ℕ) (v : Value) (i : ℕ) → number_of v ≡ Some i → admitted least i ≡ Some n → Admitted least n v
+admitted_is least n v i p q =
+    let is = cond_some (ltb v.bits (numbers_below v.ty)) v.bits i p in
+    let fits = not_below (ltb i least) refl q in
+    (is.1 ∙ fits.1, ltb-true _ _ is.0, omega (arith, fits.0, fits.1))
+  where
+    not_below : (b : Bool) → ltb i least ≡ b → cond b None (Some i) ≡ Some n → (least ≤ i) × (i ≡ n)
+    not_below true x e = absurd (none-some n e)
+    not_below false x e = (ltb-false _ _ x, same_Some i n e)
+
+pub counting : (type bits : ℕ) → bits < numbers_below type → Counting type bits
+counting type bits l = by (eqb type u32) refl (eqb type i32) refl l
+  where
+    by : (b : Bool) → eqb type u32 ≡ b → (c : Bool) → eqb type i32 ≡ c → bits < cond b 4294967296 (cond c 2147483648 0) → Counting type bits
+    by true x c y l = inl (eqb-true _ _ x, omega (arith, l))
+    by false x true y l = inr (eqb-true _ _ y, omega (arith, l))
+    by false x false y l = absurd (omega (arith, l))
+
+pub least_below : (at n : ℕ) → least_at at ≤ n → at < 3 → 0 < n
+least_below at n l k = by (ltb at 3) refl l
+  where
+    by : (b : Bool) → ltb at 3 ≡ b → cond b 1 0 ≤ n → 0 < n
+    by true x l = omega (arith, l)
+    by false x l = absurd (omega (arith, k, ltb-false _ _ x))
+
 -- ---- variables
 
 module _ (m : Global) (os : List Valued) (accepted : Accepted m) (s : State) (keeps : KeepsTrees (old_of_global m os) s) where
@@ -128,34 +158,6 @@ module _ (m : Global) (os : List Valued) (accepted : Accepted m) (s : State) (ke
           (image_of s.images h, sym e, image_stands o s keeps h (length m.entries) (variable_below m accepted v h x) every (entries_few m accepted))
 
   -- ---- sizes
-
-  abbrev Admitted : ℕ → ℕ → Value → Type 0
-  Admitted least n v = (v.bits ≡ n) × (v.bits < numbers_below v.ty) × (least ≤ n)
-
-  admitted_is : (least n : ℕ) (v : Value) (i : ℕ) → number_of v ≡ Some i → admitted least i ≡ Some n → Admitted least n v
-  admitted_is least n v i p q =
-      let is = cond_some (ltb v.bits (numbers_below v.ty)) v.bits i p in
-      let fits = not_below (ltb i least) refl q in
-      (is.1 ∙ fits.1, ltb-true _ _ is.0, omega (arith, fits.0, fits.1))
-    where
-      not_below : (b : Bool) → ltb i least ≡ b → cond b None (Some i) ≡ Some n → (least ≤ i) × (i ≡ n)
-      not_below true x e = absurd (none-some n e)
-      not_below false x e = (ltb-false _ _ x, same_Some i n e)
-
-  counting : (type bits : ℕ) → bits < numbers_below type → Counting type bits
-  counting type bits l = by (eqb type u32) refl (eqb type i32) refl l
-    where
-      by : (b : Bool) → eqb type u32 ≡ b → (c : Bool) → eqb type i32 ≡ c → bits < cond b 4294967296 (cond c 2147483648 0) → Counting type bits
-      by true x c y l = inl (eqb-true _ _ x, omega (arith, l))
-      by false x true y l = inr (eqb-true _ _ y, omega (arith, l))
-      by false x false y l = absurd (omega (arith, l))
-
-  least_below : (at n : ℕ) → least_at at ≤ n → at < 3 → 0 < n
-  least_below at n l k = by (ltb at 3) refl l
-    where
-      by : (b : Bool) → ltb at 3 ≡ b → cond b 1 0 ≤ n → 0 < n
-      by true x l = omega (arith, l)
-      by false x l = absurd (omega (arith, k, ltb-false _ _ x))
 
   module _ (none : s.tables.constants.globals ≡ None) where
     new_trees_are : new_trees s ≡ trees_of s.tables

@@ -4,6 +4,7 @@ mod Taking
 mod Closings
 mod Walked
 mod Carrying
+mod Rows
 mod Modules
 mod SameTrees
 mod Once

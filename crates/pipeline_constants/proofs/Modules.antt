@@ -31,6 +31,8 @@ use Rattle.pipeline_constants.specs.Beginnings.{Copied}
 use Rattle.pipeline_constants.specs.Endings.{Came, Ending}
 use Rattle.pipeline_constants.specs.Laws.{Stays, RunsBy, Runs, SettledAs, StoppedAs}
 use Rattle.pipeline_constants.specs.Carried.{Carries}
+use Rattle.pipeline_constants.specs.Rows.{RowOf}
+use Rattle.pipeline_constants.proofs.Rows.{came_row}
 use Rattle.pipeline_constants.proofs.Carrying.{came_carries, copies_carry}
 use Rattle.pipeline_constants.proofs.SameTrees.{copies_keep}
 
@@ -100,6 +102,8 @@ module _ (f : Meaning) (a : Module) (os : List Valued) (e : Ended) (some : 0 < l
     stopped_walked x w sizes err writ =
         record {
           rules = subst (λ (y : Finished). Came (settling f (room_of a) (tables_of a) os) (content_of y) (Err x)) (sym finished) (came (Err x) err);
+          row = subst (λ (y : Finished). RowOf f (room_of a) (tables_of a) os (content_of y).walk x) (sym finished)
+              (came_row f (room_of a) (tables_of a) os (content_of e.finished) x (came (Err x) err));
           written =
               writ ∙ (counted e.finished ending.total ∙ ap (λ (y : Finished). counts (content_of y)) (sym finished));
           runs = runs;

@@ -20,6 +20,7 @@ use Rattle.pipeline_constants.specs.Contents.{no_content}
 use Rattle.pipeline_constants.specs.Settlings.{settling, full_at_first}
 use Rattle.pipeline_constants.specs.Endings.{Came}
 use Rattle.pipeline_constants.specs.Carried.{Carries}
+use Rattle.pipeline_constants.specs.Rows.{RowOf}
 use Rattle.pipeline_constants.specs.Views.{content_of, counts, room_of, tables_of}
 
 -- no refusal applies to the file and the module before a settling begins
@@ -63,9 +64,10 @@ pub record Untouched (a : Module) (e : Refused) : Type 0 where
   pub written : e.written ≡ counts no_content
 
 -- The rules refuse module a in the walk or at the sizes, and what was written by then is theirs: the variables have their old inits if
--- the walk stopped, and their images' if a size is refused.
+-- the walk stopped, and their images' if a size is refused. The refusal means what its row says.
 pub record StoppedAs (f : Meaning) (a : Module) (os : List Valued) (e : Refused) : Type 0 where
   pub rules : Came (settling f (room_of a) (tables_of a) os) (content_of e.module.finished) (Err e.refusal)
+  pub row : RowOf f (room_of a) (tables_of a) os (content_of e.module.finished).walk e.refusal
   pub written : e.written ≡ counts (content_of e.module.finished)
   pub runs : Runs a e.module
   pub sizes : e.module.sizes ≡ a.sizes

@@ -10,5 +10,6 @@ pub mod Walks
 pub mod Beginnings
 pub mod Endings
 pub mod Carried
+pub mod Rows
 pub mod Laws
 pub mod Once

@@ -8,3 +8,4 @@ pub mod WholeWalk
 pub mod Accepting
 pub mod ModuleKeeps
 pub mod Numbering
+pub mod Stopping

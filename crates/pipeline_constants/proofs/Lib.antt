@@ -3,5 +3,8 @@ mod Five
 mod Taking
 mod Closings
 mod Walked
+mod Carrying
+mod Rows
 mod Modules
 mod SameTrees
+mod Once

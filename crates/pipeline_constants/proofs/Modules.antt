@@ -1,33 +1,39 @@
 -- From what a walk in the finished tables came to, to what settling a module gives.
-use Rattle.std.proofs.Common.{rules, ◌≡◌, ℕ, ◌<◌, List, [], ◌∷◌, length, vec_items, refl, sym, ap, ◌∙◌, subst, Ok, Err, Result}
+use Rattle.std.proofs.Common.{rules, ◌≡◌, ℕ, ◌<◌, false, List, [], ◌∷◌, length, vec_items, refl, sym, ap, ◌∙◌, subst, Ok, Err, Result}
 use Rattle.std.proofs.lemmas.List.{length-map}
 use Rattle.std.proofs.lemmas.Option.{none-some}
 use Rattle.arena.specs.Items.{items}
 use Rattle.arena.specs.Nodes.{node, nodes, operand_total}
 use Rattle.arena.specs.Tiles.{Tiled}
 use Rattle.refusals.specs.declared.Refusal.{Refusal}
+use Rattle.ir.specs.declared.tables.Constant.{Constant}
 use Rattle.ir.specs.declared.tables.Override.{Override}
 use Rattle.ir.specs.declared.tables.Sizes.{Sizes}
 use Rattle.ir.specs.Tables.{Global, sizes_of}
-use Rattle.evaluator.specs.declared.expression_kind.ExpressionKind.{ExpressionKind}
+use Rattle.evaluator.specs.declared.tables.NewConstant.{NewConstant}
 use Rattle.evaluator.specs.Verdicts.{Meaning}
 use Rattle.settings.specs.Layout.{Given}
 use Rattle.walking.specs.declared.overrides.Valued.{Valued}
 use Rattle.walking.specs.Laws.{KeepsTrees}
-use Rattle.walking.specs.Accepted.{Accepted, old_of_global}
+use Rattle.walking.specs.Accepted.{Accepted, ValuesOf, old_of_global}
 use Rattle.walking.proofs.Accepting.{accepted_is_checked}
+use Rattle.walking.proofs.Numbering.{Numbered, walk_module_numbered}
 use Rattle.overrides.specs.Values.{ValuedFor}
 use Rattle.overrides.proofs.Standing.{valued_is_values}
 use Rattle.pipeline_constants.specs.declared.finished.Finished.{Finished}
 use Rattle.pipeline_constants.specs.declared.finished.Written.{Written}
 use Rattle.pipeline_constants.specs.declared.module.Module.{Module}
 use Rattle.pipeline_constants.specs.declared.settling.Ended.{Ended}
-use Rattle.pipeline_constants.specs.Contents.{Content, copies}
+use Rattle.pipeline_constants.specs.Contents.{Content, new_constants, copies}
 use Rattle.pipeline_constants.specs.Settlings.{Limits, Answer, settles, settled_by, settling, after_walk, walked}
 use Rattle.pipeline_constants.specs.Views.{content_of, limits_of, room_of, tables_of, counts, written_in}
 use Rattle.pipeline_constants.specs.Beginnings.{Copied}
 use Rattle.pipeline_constants.specs.Endings.{Came, Ending}
 use Rattle.pipeline_constants.specs.Laws.{Stays, RunsBy, Runs, SettledAs, StoppedAs}
+use Rattle.pipeline_constants.specs.Carried.{Carries}
+use Rattle.pipeline_constants.specs.Rows.{RowOf}
+use Rattle.pipeline_constants.proofs.Rows.{came_row}
+use Rattle.pipeline_constants.proofs.Carrying.{came_carries, copies_carry}
 use Rattle.pipeline_constants.proofs.SameTrees.{copies_keep}
 
 -- with an override there is a walk
@@ -45,11 +51,22 @@ runs_tile [] a b l t = absurd (not_below l)
     not_below l = search rules
 runs_tile (p ∷ ps) a b l t = t
 
+abbrev unmapped : Constant → NewConstant
+unmapped c = record { init = c.init; mapped = false }
+
 module _ (f : Meaning) (a : Module) (os : List Valued) (e : Ended) (some : 0 < length (vec_items a.source.overrides)) (ending : Ending f (tables_of a) os a.finished e) where
   came : (r : Result Sizes Refusal) → e.sized ≡ r → Came (settling f (room_of a) (tables_of a) os) (content_of e.finished) r
   came r q =
       subst (λ (x : Answer). Came x (content_of e.finished) r) (sym (by_walk (vec_items a.source.overrides) f (room_of a) (tables_of a) os some))
       (subst (Came (after_walk (tables_of a) (walked f (room_of a) (tables_of a) os)) (content_of e.finished)) q ending.came)
+
+  carried : Accepted (tables_of a) → ValuesOf (tables_of a) os → (z : Sizes) → e.sized ≡ Ok z → Carries (old_of_global (tables_of a) os) (tables_of a) (content_of e.finished) (sizes_of z)
+  carried accepted values z ok =
+      came_carries (tables_of a) os accepted values some (walked f (room_of a) (tables_of a) os) (content_of e.finished) z
+      (λ s w. subst (λ (n : ℕ). Numbered n s) (length-map (vec_items a.source.constants) unmapped)
+      (walk_module_numbered f (room_of a).walk os (nodes (vec_items a.source.entries) (vec_items a.source.operands)) (new_constants false (vec_items a.source.constants)) s w))
+      (ending.keeps (accepted_is_checked (tables_of a) os accepted values) z ok) refl
+      (subst (Came (after_walk (tables_of a) (walked f (room_of a) (tables_of a) os)) (content_of e.finished)) ok ending.came)
 
   module _ (b : Module) (source : b.source ≡ a.source) (finished : b.finished ≡ e.finished) where
     stays : Stays a b
@@ -71,6 +88,8 @@ module _ (f : Meaning) (a : Module) (os : List Valued) (e : Ended) (some : 0 < l
           rules = subst (λ (x : Finished). Came (settling f (room_of a) (tables_of a) os) (content_of x) (Ok b.sizes)) (sym finished) (came (Ok b.sizes) ok);
           trees = subst (λ (x : Finished). KeepsTrees (old_of_global (tables_of a) os) (content_of x).walk) (sym finished)
               (ending.keeps (accepted_is_checked (tables_of a) os accepted (valued_is_values g (tables_of a) os valued)) b.sizes ok);
+          carries = subst (λ (x : Finished). Carries (old_of_global (tables_of a) os) (tables_of a) (content_of x) (sizes_of b.sizes)) (sym finished)
+              (carried accepted (valued_is_values g (tables_of a) os valued) b.sizes ok);
           runs = runs;
           stays = stays;
         }
@@ -83,6 +102,8 @@ module _ (f : Meaning) (a : Module) (os : List Valued) (e : Ended) (some : 0 < l
     stopped_walked x w sizes err writ =
         record {
           rules = subst (λ (y : Finished). Came (settling f (room_of a) (tables_of a) os) (content_of y) (Err x)) (sym finished) (came (Err x) err);
+          row = subst (λ (y : Finished). RowOf f (room_of a) (tables_of a) os (content_of y).walk x) (sym finished)
+              (came_row f (room_of a) (tables_of a) os (content_of e.finished) x (came (Err x) err));
           written =
               writ ∙ (counted e.finished ending.total ∙ ap (λ (y : Finished). counts (content_of y)) (sym finished));
           runs = runs;
@@ -109,9 +130,12 @@ module _ (a : Module) (bare : vec_items a.source.overrides ≡ []) where
   settled_copied f b source sizes c accepted =
       let same = content_copied b.finished c in
       let checked = accepted_is_checked (tables_of a) [] accepted (valued_is_values (record { keys = []; values = [] }) (tables_of a) [] (bare_given (record { keys = []; values = [] }) (vec_items a.source.names) (vec_items a.source.overrides) bare)) in
+      let keeps = copies_keep (tables_of a) checked in
       record {
         rules = subst (λ (x : Answer). Came x (content_of b.finished) (Ok b.sizes)) (sym (by_copies f)) (same, ap sizes_of sizes);
-        trees = subst (λ (x : Content). KeepsTrees (old_of_global (tables_of a) []) x.walk) (sym same) (copies_keep (tables_of a) checked);
+        trees = subst (λ (x : Content). KeepsTrees (old_of_global (tables_of a) []) x.walk) (sym same) keeps;
+        carries = subst (λ (x : Content). Carries (old_of_global (tables_of a) []) (tables_of a) x (sizes_of b.sizes)) (sym same)
+            (subst (Carries (old_of_global (tables_of a) []) (tables_of a) (copies (tables_of a))) (sym (ap sizes_of sizes)) (copies_carry (tables_of a) accepted bare keeps));
         runs = subst (λ (ps : List Override). RunsBy ps a b) (sym bare) (c.entries, c.operands);
         stays = record {
           source = source;

@@ -15,7 +15,7 @@ use Rattle.pipeline_constants.specs.Contents.{copies, numbers, new_constants}
 use Rattle.pipeline_constants.proofs.Numbers.{numbers_count}
 
 -- the number at a place
-number_at : (k n h i : ℕ) → slice_get (numbers k n) h ≡ Some i → (i ≡ k + h) × (h < n)
+pub number_at : (k n h i : ℕ) → slice_get (numbers k n) h ≡ Some i → (i ≡ k + h) × (h < n)
 number_at k zero h i e = absurd (none-some i e)
 number_at k (suc n) zero i e =
     let here : k ≡ k + 0 = omega arith in (sym (same_Some k i e) ∙ here, omega arith)

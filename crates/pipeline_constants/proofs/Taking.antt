@@ -23,7 +23,7 @@ module _ (cs : List NewConstant) (ss : List ℕ) where
       let count : 0 + length (take n os) ≡ n = zeroed ∙ length-take-le n os low in
       ap (λ (k : ℕ). taken_from cs ss 0 (take k os)) one ∙ (ap (taken_from cs ss 0) (take-suc os n d l) ∙ (snoc 0 (take n os) (get_or os n d) ∙ ap (λ (k : ℕ). taken_from cs ss 0 (take n os) ++ taken cs ss k (get_or os n d) ∷ []) count))
 
-  taken_count : (p : ℕ) (os : List Override) → length (taken_from cs ss p os) ≡ length os
+  pub taken_count : (p : ℕ) (os : List Override) → length (taken_from cs ss p os) ≡ length os
   taken_count p [] = refl
   taken_count p (o ∷ os) = ap suc (taken_count (p + 1) os)
 

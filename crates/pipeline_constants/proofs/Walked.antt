@@ -8,7 +8,6 @@ use Rattle.ir.specs.declared.tables.Override.{Override}
 use Rattle.ir.specs.declared.tables.Source.{Source}
 use Rattle.ir.specs.declared.tables.Sizes.{Sizes}
 use Rattle.ir.specs.Tables.{Global, global}
-use Rattle.evaluator.specs.declared.expression_kind.ExpressionKind.{ExpressionKind}
 use Rattle.evaluator.specs.declared.tables.NewConstant.{NewConstant}
 use Rattle.evaluator.specs.Verdicts.{Meaning}
 use Rattle.walking.specs.declared.overrides.Valued.{Valued}
@@ -25,7 +24,7 @@ use Rattle.pipeline_constants.specs.Settlings.{Limits, refuses, sized_as, after_
 use Rattle.pipeline_constants.specs.Lookups.{SizedAs}
 use Rattle.pipeline_constants.specs.Views.{content_of, limits_of}
 use Rattle.pipeline_constants.specs.Walks.{Walking, old_of}
-use Rattle.pipeline_constants.specs.Beginnings.{Begun, Closed, SameRoom, Sized}
+use Rattle.pipeline_constants.specs.Beginnings.{Begun, Closed, Sized}
 use Rattle.pipeline_constants.specs.Endings.{Came, Ending}
 
 -- the inits of constants that are not mapped, and the constants of these inits

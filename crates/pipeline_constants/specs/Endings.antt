@@ -1,5 +1,5 @@
 -- What a walk in the finished tables came to.
-use Rattle.std.specs.Prelude.{◌≡◌, ℕ, List, length, Ok, Err, Result}
+use Rattle.std.specs.Prelude.{◌≡◌, List, length, Ok, Err, Result}
 use Rattle.arena.specs.Items.{items}
 use Rattle.arena.specs.Nodes.{nodes, operand_total}
 use Rattle.arena.specs.Tiles.{Tiled}
@@ -7,7 +7,6 @@ use Rattle.refusals.specs.declared.Refusal.{Refusal}
 use Rattle.refusals.specs.Codes.{code_of}
 use Rattle.ir.specs.declared.tables.Sizes.{Sizes}
 use Rattle.ir.specs.Tables.{Global, sizes_of}
-use Rattle.evaluator.specs.declared.expression_kind.ExpressionKind.{ExpressionKind}
 use Rattle.evaluator.specs.Verdicts.{Meaning}
 use Rattle.walking.specs.declared.overrides.Valued.{Valued}
 use Rattle.walking.specs.Laws.{CheckedOld, KeepsTrees}

@@ -6,8 +6,7 @@ use Rattle.settings.specs.Layout.{Given, Encodes, Distinct}
 use Rattle.refusals.specs.declared.Refusal.{Refusal}
 use Rattle.refusals.specs.Codes.{code_of}
 use Rattle.ir.specs.declared.tables.Override.{Override}
-use Rattle.ir.specs.Tables.{Global}
-use Rattle.evaluator.specs.declared.expression_kind.ExpressionKind.{ExpressionKind}
+use Rattle.ir.specs.Tables.{Global, sizes_of}
 use Rattle.evaluator.specs.Verdicts.{Meaning}
 use Rattle.walking.specs.declared.overrides.Valued.{Valued}
 use Rattle.walking.specs.Laws.{KeepsTrees}
@@ -20,6 +19,8 @@ use Rattle.pipeline_constants.specs.declared.module.Refused.{Refused}
 use Rattle.pipeline_constants.specs.Contents.{no_content}
 use Rattle.pipeline_constants.specs.Settlings.{settling, full_at_first}
 use Rattle.pipeline_constants.specs.Endings.{Came}
+use Rattle.pipeline_constants.specs.Carried.{Carries}
+use Rattle.pipeline_constants.specs.Rows.{RowOf}
 use Rattle.pipeline_constants.specs.Views.{content_of, counts, room_of, tables_of}
 
 -- no refusal applies to the file and the module before a settling begins
@@ -48,10 +49,12 @@ abbrev pub Runs : Module → Module → Type 0
 Runs a b = RunsBy (vec_items a.source.overrides) a b
 
 -- The rules settle module a with these values, and all that is finished and the sizes are theirs.
--- The tree of each handle's image over the finished tables is the handle's own tree over the module's, overrides read at these values.
+-- The tree of each handle's image over the finished tables is the handle's own tree over the module's, overrides read at these values;
+-- and so it is with the inits of variables and overrides, and with the sizes.
 pub record SettledAs (f : Meaning) (a : Module) (os : List Valued) (s : Settled) : Type 0 where
   pub rules : Came (settling f (room_of a) (tables_of a) os) (content_of s.module.finished) (Ok s.module.sizes)
   pub trees : KeepsTrees (old_of_global (tables_of a) os) (content_of s.module.finished).walk
+  pub carries : Carries (old_of_global (tables_of a) os) (tables_of a) (content_of s.module.finished) (sizes_of s.module.sizes)
   pub runs : Runs a s.module
   pub stays : Stays a s.module
 
@@ -61,9 +64,10 @@ pub record Untouched (a : Module) (e : Refused) : Type 0 where
   pub written : e.written ≡ counts no_content
 
 -- The rules refuse module a in the walk or at the sizes, and what was written by then is theirs: the variables have their old inits if
--- the walk stopped, and their images' if a size is refused.
+-- the walk stopped, and their images' if a size is refused. The refusal means what its row says.
 pub record StoppedAs (f : Meaning) (a : Module) (os : List Valued) (e : Refused) : Type 0 where
   pub rules : Came (settling f (room_of a) (tables_of a) os) (content_of e.module.finished) (Err e.refusal)
+  pub row : RowOf f (room_of a) (tables_of a) os (content_of e.module.finished).walk e.refusal
   pub written : e.written ≡ counts (content_of e.module.finished)
   pub runs : Runs a e.module
   pub sizes : e.module.sizes ≡ a.sizes

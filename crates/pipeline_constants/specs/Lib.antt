@@ -9,4 +9,7 @@ pub mod Lookups
 pub mod Walks
 pub mod Beginnings
 pub mod Endings
+pub mod Carried
+pub mod Rows
 pub mod Laws
+pub mod Once

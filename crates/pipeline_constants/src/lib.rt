@@ -2,6 +2,8 @@
 // expressions are built anew with all that a folder can work out.
 #![tactic(auto)]
 
+ghost use Rattle.pipeline_constants.specs.Once.{SettlesOnce};
+
 mod closing;
 mod copying;
 mod finished;
@@ -17,3 +19,8 @@ mod walk;
 pub use finished::{Finished, Written};
 pub use module::{Module, Refused, Settled};
 pub use room::Room;
+
+// What can be relied on whatever is settled: a file and a module have one answer.
+pub fn settling_stands()
+    ensures once { SettlesOnce }
+{}

@@ -7,3 +7,5 @@ pub mod Mapped
 pub mod WholeWalk
 pub mod Accepting
 pub mod ModuleKeeps
+pub mod Numbering
+pub mod Stopping

@@ -7,3 +7,4 @@ pub mod Fulls
 pub mod Laws
 pub mod Accepted
 pub mod Modules
+pub mod Stops

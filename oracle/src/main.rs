@@ -11,6 +11,7 @@ both FILE            the two, one after the other
 diff SEED N          counts cases by outcome, and shows those in which naga and the rules differ
 list SEED            the stored list of settlings; what it covers goes to standard error
 differences SEED     the list of settlings in which naga and the rules differ
+time FILE ROUNDS     how long naga settles the cases of a file, so many times
 values SEED N        conversions, naga's beside the rules'
 slots                the order in which naga looks up operands
 probe                what answers to cases do not show";
@@ -100,6 +101,11 @@ fn main() {
         Some("list") => list::list(number(2, 1)),
         Some("differences") => list::differences(number(2, 1)),
         Some("values") => values::values(number(2, 1), number(3, 1000000)),
+        Some("time") => {
+            let rounds = number(3, 1) as u32;
+            let total: std::time::Duration = cases().iter().map(|c| run::time(c, rounds)).sum();
+            println!("{rounds} rounds: {total:?}")
+        }
         Some("slots") => slots::slots(),
         Some("probe") => probe::run(),
         _ => eprintln!("{HELP}"),

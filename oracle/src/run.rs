@@ -269,6 +269,21 @@ fn finished(c: &Case, s: &Module, kinds: Vec<u8>, a: &mut Answer) {
         a.m = read_constants(f)
     }
 }
+/// How long `process_overrides` takes on the module of a case, so many times, the module and the settings made before.
+pub fn time(c: &Case, rounds: u32) -> std::time::Duration {
+    crate::folders::set_pile(&c.pile);
+    let m = module(c);
+    let keys = constants(c, false);
+    let info = crate::valid::ModuleInfo;
+    let mut total = std::time::Duration::ZERO;
+    for _ in 0..rounds {
+        let start = std::time::Instant::now();
+        let r = process_overrides(&m, &info, None, &keys);
+        total += start.elapsed();
+        drop(r);
+    }
+    total
+}
 /// Settles the module of a case by the unchanged `process_overrides`. `with_reader`: a function that names every override goes along,
 /// so that the constant of each can be read; it cannot where an override has neither id nor name.
 fn settle(c: &Case, reverse: bool, with_reader: bool, a: &mut Answer) -> Option<Module> {

@@ -1,5 +1,5 @@
 // Settles what stored lists give, and holds it against the answers that stand beside it. For each list it prints what differs, and the
-// counts. Its arguments are the lists' paths.
+// counts; how long the settlings took goes to standard error. Its arguments are the lists' paths.
 #![tactic(auto)]
 
 use anyhow::{Context, ensure};
@@ -10,7 +10,15 @@ use other_folders::{Padding, Trap};
 use pipeline_constants::{Finished, Module, Room, Written};
 use refusals::Refusal;
 use settling_list::{Case, Counts, Ours, Part, Pile, Reader, Sprung, Tally};
+use std::time::{Duration, Instant};
 use std::{env, fs};
+
+// What came of a list so far, and how long its settlings took.
+#[derive(Clone, Copy)]
+struct Replay {
+    tally: Tally,
+    time: Duration,
+}
 
 fn counts(written: Written) -> Counts {
     Counts {
@@ -45,7 +53,7 @@ fn settle<F: Folder>(
     rt: &HostRuntime,
     case: Case,
     folder: &F,
-    tally: &mut Tally,
+    replay: &mut Replay,
 ) -> anyhow::Result<Option<Part>> {
     let Case {
         source,
@@ -55,12 +63,20 @@ fn settle<F: Folder>(
         ..
     } = case;
     let module = Module::new(rt.alloc(), source, sizes, Room::most())?;
-    let differs = match module.settle(file.as_slice(), folder) {
-        Ok(settled) => tally.add(&answer, &ours(settled.finished(), *settled.sizes(), None)),
+    let start = Instant::now(rt)?;
+    let made = module.settle(file.as_slice(), folder);
+    let time = start.elapsed(rt)?;
+    replay.time = replay.time.saturating_add(time);
+    let differs = match made {
+        Ok(settled) => replay
+            .tally
+            .add(&answer, &ours(settled.finished(), *settled.sizes(), None)),
         Err(refused) => {
             let told = Some((refused.refusal, counts(refused.written)));
             let module = refused.module;
-            tally.add(&answer, &ours(module.finished(), *module.sizes(), told))
+            replay
+                .tally
+                .add(&answer, &ours(module.finished(), *module.sizes(), told))
         }
     };
     Ok(differs)
@@ -75,56 +91,55 @@ fn trap<F: Folder>(sprung: Sprung, below: F) -> Trap<F> {
 }
 
 // Settles a case with the folders of its pile.
-fn settle_pile(
-    rt: &HostRuntime,
-    case: Case,
-    tally: &mut Tally,
-) -> anyhow::Result<Option<Part>> {
+fn settle_pile(rt: &HostRuntime, case: Case, replay: &mut Replay) -> anyhow::Result<Option<Part>> {
     let whole = Whole { below: Keep };
     let padding = Padding { below: Keep };
     match case.pile {
-        Pile::Keep => settle(rt, case, &Keep, tally),
-        Pile::KeepWhole => settle(rt, case, &whole, tally),
-        Pile::KeepFind => settle(rt, case, &Find { below: Keep }, tally),
-        Pile::KeepWholeFind => settle(rt, case, &Find { below: whole }, tally),
+        Pile::Keep => settle(rt, case, &Keep, replay),
+        Pile::KeepWhole => settle(rt, case, &whole, replay),
+        Pile::KeepFind => settle(rt, case, &Find { below: Keep }, replay),
+        Pile::KeepWholeFind => settle(rt, case, &Find { below: whole }, replay),
         Pile::KeepFindWhole => {
             let find = Find { below: Keep };
-            settle(rt, case, &Whole { below: find }, tally)
+            settle(rt, case, &Whole { below: find }, replay)
         }
-        Pile::KeepPadding => settle(rt, case, &padding, tally),
-        Pile::KeepPaddingWhole => settle(rt, case, &Whole { below: padding }, tally),
-        Pile::KeepPaddingFind => settle(rt, case, &Find { below: padding }, tally),
-        Pile::KeepTrap(sprung) => settle(rt, case, &trap(sprung, Keep), tally),
-        Pile::KeepWholeTrap(sprung) => settle(rt, case, &trap(sprung, whole), tally),
+        Pile::KeepPadding => settle(rt, case, &padding, replay),
+        Pile::KeepPaddingWhole => settle(rt, case, &Whole { below: padding }, replay),
+        Pile::KeepPaddingFind => settle(rt, case, &Find { below: padding }, replay),
+        Pile::KeepTrap(sprung) => settle(rt, case, &trap(sprung, Keep), replay),
+        Pile::KeepWholeTrap(sprung) => settle(rt, case, &trap(sprung, whole), replay),
         Pile::KeepTrapWhole(sprung) => {
             let below = trap(sprung, Keep);
-            settle(rt, case, &Whole { below }, tally)
+            settle(rt, case, &Whole { below }, replay)
         }
         Pile::KeepWholeFindTrap(sprung) => {
             let find = Find { below: whole };
-            settle(rt, case, &trap(sprung, find), tally)
+            settle(rt, case, &trap(sprung, find), replay)
         }
         Pile::KeepWholeTrapFind(sprung) => {
             let below = trap(sprung, whole);
-            settle(rt, case, &Find { below }, tally)
+            settle(rt, case, &Find { below }, replay)
         }
     }
 }
 
 // Settles the cases of a list one after the other, and prints which differ.
-fn replay(rt: &HostRuntime, text: &str) -> anyhow::Result<Tally> {
+fn run(rt: &HostRuntime, text: &str) -> anyhow::Result<Replay> {
     let mut reader = Reader::new(rt.alloc());
-    let mut tally = Tally::new();
+    let mut replay = Replay {
+        tally: Tally::new(),
+        time: Duration::ZERO,
+    };
     for line in text.lines() {
         if let Some(case) = reader.put_line(line)? {
             let number = case.number;
-            if let Some(part) = settle_pile(rt, case, &mut tally)? {
+            if let Some(part) = settle_pile(rt, case, &mut replay)? {
                 println!(rt; "case {number}: other {}", part.words())?;
             }
         }
     }
     reader.finish()?;
-    Ok(tally)
+    Ok(replay)
 }
 
 fn main(rt: HostRuntime) -> anyhow::Result<()> {
@@ -133,9 +148,10 @@ fn main(rt: HostRuntime) -> anyhow::Result<()> {
     for path in &paths {
         let path = path.as_str();
         let text = fs::read_to_string(&rt, path).context(path)?;
-        let tally = replay(&rt, text.as_str()).context(path)?;
+        let Replay { tally, time } = run(&rt, text.as_str()).context(path)?;
         let told = format!(in heap; "{path}: {tally}")?;
         rt.print(told.as_str())?;
+        eprintln!(rt; "{path}: settled in {time:?}")?;
         ensure!(tally.is_same(), "not all answers are the same");
     }
     Ok(())

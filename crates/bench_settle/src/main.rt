@@ -1,5 +1,5 @@
-// Times a settling of the largest size: 4,096 overrides and 61,440 expressions that become 65,536 entries. What was found goes to
-// standard output, the times to standard error.
+// Times settlings of the largest size: so many expressions that with a literal for each override they become 65,536 entries. What was
+// found goes to standard output, the times to standard error.
 #![tactic(auto)]
 
 use arena::{Entry, Handle, Run, Span};
@@ -13,9 +13,13 @@ use settings::{Setting, write};
 use std::alloc::{AllocError, Global};
 use std::time::{Duration, Instant};
 
-const OVERRIDES: u32 = 4096;
+// Finished entries: each override has a literal and an expression.
+const ENTRIES: u32 = 65536;
 
-const ENTRIES: u32 = 61440;
+// As many overrides as a module may have, and as many as a module mostly has.
+const MANY: u16 = 4096;
+
+const FEW: u16 = 16;
 
 // Where the settling stands in the program.
 type Settling = Result<Settled, Refused>;
@@ -30,8 +34,8 @@ fn entry(kind: Expression, word: u32, at: u32, len: u32) -> Entry {
 }
 
 // An override for each key, and sums: each of the two expressions before it.
-fn added(i: u32) -> Entry {
-    if i < OVERRIDES {
+fn added(i: u32, overrides: u16) -> Entry {
+    if i < u32::from(overrides) {
         entry(Expression::Override, i, 0, 0)
     } else {
         entry(Expression::Binary, 0, i.saturating_sub(2), 2)
@@ -39,26 +43,31 @@ fn added(i: u32) -> Entry {
 }
 
 // An override for each key, and composites of the four expressions before them.
-fn composed(i: u32) -> Entry {
-    if i < OVERRIDES {
+fn composed(i: u32, overrides: u16) -> Entry {
+    if i < u32::from(overrides) {
         entry(Expression::Override, i, 0, 0)
     } else {
         entry(Expression::Compose, 0, i.saturating_sub(4), 4)
     }
 }
 
-fn entries<F: Fn(u32) -> Entry>(heap: Global, laid_out: F) -> Result<Vec<Entry>, AllocError>
+fn entries<F: Fn(u32, u16) -> Entry>(
+    heap: Global,
+    overrides: u16,
+    laid_out: F,
+) -> Result<Vec<Entry>, AllocError>
     requires { F.IsAlwaysCallable laid_out }
 {
-    (0..ENTRIES).map(|i| laid_out(i)).collect(heap)
+    let count = ENTRIES.saturating_sub(u32::from(overrides));
+    (0..count).map(|i| laid_out(i, overrides)).collect(heap)
 }
 
 fn operands(heap: Global) -> Result<Vec<Handle>, AllocError> {
     (0..ENTRIES).map(|i| i).collect(heap)
 }
 
-fn overrides(heap: Global) -> Result<Vec<Override>, AllocError> {
-    (0..OVERRIDES as u16)
+fn overrides(heap: Global, count: u16) -> Result<Vec<Override>, AllocError> {
+    (0..count)
         .map(|id| Override {
             id: Some(id),
             name: None,
@@ -71,12 +80,12 @@ fn overrides(heap: Global) -> Result<Vec<Override>, AllocError> {
         .collect(heap)
 }
 
-fn source(heap: Global, entries: Vec<Entry>) -> Result<Source, AllocError> {
+fn source(heap: Global, entries: Vec<Entry>, count: u16) -> Result<Source, AllocError> {
     Ok(Source {
         entries,
         operands: operands(heap)?,
         constants: Vec::new(heap),
-        overrides: overrides(heap)?,
+        overrides: overrides(heap, count)?,
         names: Vec::new(heap),
         variables: Vec::new(heap),
     })
@@ -94,8 +103,10 @@ fn sizes() -> Sizes {
     }
 }
 
-fn make_keys(heap: Global) -> Result<Vec<String>, AllocError> {
-    (0..OVERRIDES).map(|i| format!(in heap; "{i}")).try_collect(heap)
+fn make_keys(heap: Global, count: u16) -> Result<Vec<String>, AllocError> {
+    (0..count)
+        .map(|i| format!(in heap; "{i}"))
+        .try_collect(heap)
 }
 
 // Each override's key, with a value above zero.
@@ -122,28 +133,30 @@ fn print(rt: &HostRuntime, name: &str, settled: &Settling, time: Duration) -> an
 }
 
 // Times the settling of a module whose expressions are laid out so.
-fn time<F: Folder, L: Fn(u32) -> Entry>(
+fn time<F: Folder, L: Fn(u32, u16) -> Entry>(
     rt: &HostRuntime,
     name: &str,
-    file: &[u8],
+    count: u16,
     folder: &F,
     laid_out: L,
 ) -> anyhow::Result<()>
     requires { L.IsAlwaysCallable laid_out }
 {
     let heap = rt.alloc();
-    let source = source(heap, entries(heap, laid_out)?)?;
+    let source = source(heap, entries(heap, count, laid_out)?, count)?;
+    let keys = make_keys(heap, count)?;
+    let all = make_settings(heap, keys.as_slice())?;
+    let file = write(heap, all.as_slice())?;
     let module = Module::new(heap, source, sizes(), Room::most())?;
     let start = Instant::now(rt)?;
-    let settled = module.settle(file, folder);
+    let settled = module.settle(file.as_slice(), folder);
     print(rt, name, &settled, start.elapsed(rt)?)
 }
 
 fn main(rt: HostRuntime) -> anyhow::Result<()> {
-    let heap = rt.alloc();
-    let keys = make_keys(heap)?;
-    let all = make_settings(heap, keys.as_slice())?;
-    let file = write(heap, all.as_slice())?;
-    time(&rt, "composed", file.as_slice(), &Keep, composed)?;
-    time(&rt, "added", file.as_slice(), &Whole { below: Keep }, added)
+    let whole = Whole { below: Keep };
+    time(&rt, "composed, many overrides", MANY, &Keep, composed)?;
+    time(&rt, "added, many overrides", MANY, &whole, added)?;
+    time(&rt, "composed, few overrides", FEW, &Keep, composed)?;
+    time(&rt, "added, few overrides", FEW, &whole, added)
 }

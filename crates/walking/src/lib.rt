@@ -2,6 +2,7 @@
 #![tactic(auto)]
 
 mod entries;
+mod images;
 mod modules;
 mod overrides;
 mod work;

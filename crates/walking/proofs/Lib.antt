@@ -1,4 +1,5 @@
 mod Lefts
+mod BodyLefts
 pub mod Extending
 pub mod Holding
 pub mod Steps
@@ -7,3 +8,5 @@ pub mod Mapped
 pub mod WholeWalk
 pub mod Accepting
 pub mod ModuleKeeps
+pub mod Sending
+pub mod BodyKeeps

@@ -7,3 +7,7 @@ pub mod Fulls
 pub mod Laws
 pub mod Accepted
 pub mod Modules
+pub mod BodyWalks
+pub mod BodyWorks
+pub mod BodyLaws
+pub mod Bodies

@@ -104,7 +104,7 @@ impl Work<'_, '_, '_, '_, '_, '_, '_, '_, '_, '_> {
 }
 
 // An expression at the end of a table. Apart from the walk, since of a field that is lent inside a struct nothing is known afterwards.
-fn append(
+pub(crate) fn append(
     expressions: &mut Arena,
     kinds: &mut ExpressionKindTracker<'_>,
     expr: Asked<'_>,

@@ -1,5 +1,5 @@
 -- A whole walk over a body's entries, from empty tables.
-use Rattle.std.specs.Prelude.{◌≡◌, ℕ, ◌<◌, List, [], ◌⊎◌, length, take, Ok, Result}
+use Rattle.std.specs.Prelude.{◌≡◌, ℕ, ◌<◌, ◌≤◌, List, [], ◌⊎◌, length, take, Ok, Result}
 use Rattle.arena.specs.Nodes.{Node}
 use Rattle.arena.specs.Appends.{nodes_of, entry_limit, operand_limit}
 use Rattle.arena.specs.Items.{limit}
@@ -54,6 +54,10 @@ body_room_of_slices a ks images =
 abbrev pub body_finished : SettledModule → Arena → List ExpressionKind → List ℕ → WalkedBody → State
 body_finished m a ks images w =
     record { tables = record { entries = nodes_of a; kinds = ks; constants = constants_in m }; images = take w.images images; settled = m.settled.now }
+
+-- so many kinds, and so many images, are written
+abbrev pub Counted : List ExpressionKind → List ℕ → WalkedBody → Type 0
+Counted ks images w = (length ks ≡ w.kinds) × (w.images ≤ length images)
 
 -- no walk begins in these: there are more operands than room to map them, or images past the last number
 abbrev pub UnfitBody : OldBody → Table ℕ → List ℕ → Type 0

@@ -5,7 +5,7 @@ ghost use Rattle.arena.specs.Held.{slots};
 ghost use Rattle.arena.specs.Items.{limit};
 ghost use Rattle.arena.specs.Nodes.{nodes};
 ghost use Rattle.evaluator.specs.declared.expression_kind.ExpressionKind.{ExpressionKind as Kind};
-ghost use Rattle.walking.specs.Bodies.{BodyWalkedAs, UnfitBody, body_begun, body_finished, body_room_for, body_room_of_slices, body_written};
+ghost use Rattle.walking.specs.Bodies.{BodyWalkedAs, Counted, UnfitBody, body_begun, body_finished, body_room_for, body_room_of_slices, body_written};
 ghost use Rattle.walking.specs.BodyWalks.{body_walk};
 ghost use Rattle.walking.specs.Works.{Went};
 
@@ -72,7 +72,7 @@ fn walk_slices<F: Folder>(
 ) -> WalkedBody
     requires wide { length old.operands.now ≤ limit scratch.old }
     requires small { length images.old ≤ 4294967295 }
-    ensures went { (ks : List Kind) × (length ks ≡ result.kinds) × Went (body_walk (F.verdict folder.now) (body_room_of_slices expressions.old kinds.old images.old)
+    ensures went { (ks : List Kind) × Counted ks images.new result × Went (body_walk (F.verdict folder.now) (body_room_of_slices expressions.old kinds.old images.old)
         (nodes old.entry.entries.now old.entry.operands.now) (body_begun over.entry))
         (body_finished over.entry expressions.new ks images.new result) result.ended }
     ensures limits { SameLimits expressions.old expressions.new }
@@ -107,7 +107,7 @@ pub fn walk_body<F: Folder>(
     kinds: &mut [ExpressionKind],
     images: &mut [Handle],
 ) -> Option<WalkedBody>
-    ensures walked { MatchOption result (UnfitBody old.entry scratch.old images.old) (λ w. (ks : List Kind) × (length ks ≡ w.kinds) × BodyWalkedAs (F.verdict folder.now)
+    ensures walked { MatchOption result (UnfitBody old.entry scratch.old images.old) (λ w. (ks : List Kind) × Counted ks images.new w × BodyWalkedAs (F.verdict folder.now)
         (body_room_of_slices expressions.old kinds.old images.old) over.entry
         (nodes old.entry.entries.now old.entry.operands.now)
         (body_finished over.entry expressions.new ks images.new w) w.ended) }

@@ -1,4 +1,5 @@
-// Walking over entries, one after the other: overrides settled, constants mapped, operands sent to their images, the folder asked.
+// Walking over entries, one after the other: overrides settled, constants mapped, operands sent to their images, the folder asked. A
+// module's entries first, and then those of bodies under the settled module.
 #![tactic(auto)]
 
 mod bodies;

@@ -22,7 +22,7 @@ abbrev pub nodes_in : Nodes → List Node
 nodes_in n = nodes n.entries.now n.operands.now
 
 abbrev pub constants_of : Shown → Constants
-constants_of c = record { list = c.list.now; globals = option_map (λ g. nodes_of g.now) c.globals }
+constants_of c = record { list = c.list.now; globals = option_map nodes_in c.globals }
 
 -- the tables as a folder sees them, of an arena and a tracker
 abbrev pub tables_in : Constants → Arena → ExpressionKindTracker → Tables

@@ -40,7 +40,7 @@ pub struct NewConstant {
 #[derive(Clone, Copy)]
 pub struct Constants<'a> {
     pub list: &'a [NewConstant],
-    pub globals: Option<&'a Arena>,
+    pub globals: Option<Nodes<'a>>,
 }
 
 // An expression that stands in no table yet.

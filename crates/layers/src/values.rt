@@ -98,7 +98,7 @@ pub(crate) fn behind(
         return literal_behind(expressions, constants.list, handle);
     };
     match init_at(expressions, constants.list, handle) {
-        Some(init) => literal_behind(Nodes::of(globals), constants.list, init),
+        Some(init) => literal_behind(globals, constants.list, init),
         None => value_at(expressions, handle),
     }
 }

@@ -2,7 +2,7 @@ use crate::*;
 use arena::{ABSENT, Arena, Handle, Span};
 use evaluator::{
     Asked, Constants, Evaluated, ExpressionKind, ExpressionKindTracker, Fault, Folder, FullTable,
-    NewConstant, Tables,
+    NewConstant, Nodes, Tables,
 };
 use kinds::Expression;
 use layers::{Find, Keep, Whole};
@@ -672,7 +672,7 @@ fn constants_are_seen_through(rt: HostRuntime) -> Result<(), Fail> {
     let deep = [mapped(0), mapped(1), mapped(2), mapped(3)];
     let outer = Constants {
         list: &deep,
-        globals: Some(&globals),
+        globals: Some(Nodes::of(&globals)),
     };
     let entries = [constant(3), literal(3, 2)];
     let product = over(&pile, &mut arena, outer, &entries, binary(2, &[0, 1]));
@@ -727,7 +727,7 @@ fn damaged_constants_are_not_seen_through(rt: HostRuntime) -> Result<(), Fail> {
     let circle = [mapped(1), mapped(0)];
     let outer = Constants {
         list: &circle,
-        globals: Some(&globals),
+        globals: Some(Nodes::of(&globals)),
     };
     let product = over(&pile, &mut arena, outer, &entries, binary(2, &[1, 2]));
     assert!(rt; product.answer == Ok(Evaluated::Declined) && product.len == 3);

@@ -31,7 +31,7 @@ walk_step m r vs es os i d s l =
     let e : drop i es ≡ slice_index_or es i d ∷ drop (i + 1) es = let n : suc i ≡ i + 1 = omega arith in subst (λ k. drop i es ≡ slice_index_or es i d ∷ drop k es) n (drop-cons es i d l) in
     ap (λ xs. walk m r vs (nodes xs os) s) e
 
-goes_is : {A : Type 0} (o : Outcome) (t : State) (x : A) → Went o t (Ok x) → o ≡ goes t
+pub goes_is : {A : Type 0} (o : Outcome) (t : State) (x : A) → Went o t (Ok x) → o ≡ goes t
 goes_is (goes s) t x w = ap goes (sym w)
 goes_is (stops s code values) t x w = absurd w
 

@@ -1,4 +1,5 @@
 mod Lefts
+mod BodyLefts
 pub mod Extending
 pub mod Holding
 pub mod Steps
@@ -9,3 +10,5 @@ pub mod Accepting
 pub mod ModuleKeeps
 pub mod Numbering
 pub mod Stopping
+pub mod Sending
+pub mod BodyKeeps

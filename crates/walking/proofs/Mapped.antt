@@ -10,9 +10,8 @@ use Rattle.arena.specs.Nodes.{Node}
 use Rattle.operands.specs.Faults.{absent, needed}
 use Rattle.ir.specs.Faults.{constant, overriding}
 use Rattle.kinds.specs.Kinds.{Row, expressions, admitted}
-use Rattle.evaluator.specs.declared.tables.NewConstant.{NewConstant}
 use Rattle.evaluator.specs.Trees.{Tree, Trees, gap, arg, Reading, tree_at, tree_if, args_of, tree_of, grown, word, reading_over}
-use Rattle.evaluator.specs.Tables.{Constants}
+use Rattle.evaluator.specs.Tables.{Constants, Tables}
 use Rattle.evaluator.specs.Clauses.{reading, tree_next, Shaped, Below, reach, Named, Stands}
 use Rattle.evaluator.proofs.Growing.{tree_with, tree_same, tree_below, tree_there}
 use Rattle.evaluator.proofs.Standing.{operand_is}
@@ -20,7 +19,7 @@ use Rattle.walking.specs.States.{State}
 use Rattle.walking.specs.Images.{image_of, images_of, mapped}
 use Rattle.walking.specs.Laws.{Old, Checked, init_at, leaf_if, valued, old_trees}
 use Rattle.walking.proofs.Extending.{constant_is}
-use Rattle.walking.proofs.Holding.{trees_of, Known, Resolved, Holds, override_tree}
+use Rattle.walking.proofs.Holding.{trees_of, Has, Known, Resolved, Holds, override_tree}
 use Rattle.walking.proofs.Steps.{get_there, image_is}
 
 -- ---- operands at their images
@@ -90,7 +89,129 @@ known_now false kind row x e = e
 
 -- ---- the entry
 
-abbrev pub old_reading : Old → List Tree → Reading
+override_read : (r : Reading) (e : Node) → e.kind ≡ overriding → tree_of r e ≡ r.override_at (word e 0)
+unfolding tree_of
+override_read r e k = ap (λ x. tree_with x e.words (args_of r.operand e.operands) (r.constant_at (word e 0)) (r.override_at (word e 0))) k
+
+constant_read : (r : Reading) (e : Node) → e.kind ≡ constant → tree_of r e ≡ r.constant_at (word e 0)
+unfolding tree_of
+constant_read r e k = ap (λ x. tree_with x e.words (args_of r.operand e.operands) (r.constant_at (word e 0)) (r.override_at (word e 0))) k
+
+-- e mapped may stand next, and has this tree
+pub record Stood (s : State) (e : Node) (tree : Tree) : Type 0 where
+  pub stands : Stands s.tables.constants (length s.tables.entries) (mapped s e)
+  pub tree_is : tree_next s.tables (mapped s e) ≡ tree
+
+-- an entry that stands next may name constant n, and reads it with this tree
+pub record Reads (t : Tables) (tree : Tree) (n : ℕ) : Type 0 where
+  pub named : Named t.constants (length t.entries) n
+  pub tree_is : (reading t.constants (trees_of t)).constant_at n ≡ tree
+
+-- so it may the constant that override p was settled to
+pub record ReadsOverride (s : State) (tree : Tree) (p : ℕ) : Type 0 where
+  pub number : ℕ
+  pub there : slice_get s.settled p ≡ Some number
+  pub reads : Reads s.tables tree number
+
+-- An old entry e at h, read by `was`: each image has the tree of its handle, and what e names is read as it was.
+module _ (s : State) (was : Reading) (small : length s.tables.entries ≤ 4294967295) (imaged : (j i : ℕ) → slice_get s.images j ≡ Some i → Has s.tables (was.operand j) i)
+    (o : Old) (h most : ℕ) (at : length s.images ≡ h) (e : Node) (ok : Checked o h most e)
+    (con : e.kind ≡ constant → Reads s.tables (was.constant_at (word e 0)) (word e 0)) (over : e.kind ≡ overriding → ReadsOverride s (was.override_at (word e 0)) (word e 0)) where
+  abbrev c : Constants
+  c = s.tables.constants
+
+  abbrev k : ℕ
+  k = length s.tables.entries
+
+  abbrev now : Reading
+  now = reading c (trees_of s.tables)
+
+  im : (j i : ℕ) → slice_get s.images j ≡ Some i → i < k
+  im j i x = (imaged j i x).within
+
+  below : All (Below (length s.images)) e.operands
+  below = subst (λ n. All (Below n) e.operands) (sym at) ok.below
+
+  below_now : All (Below k) (images_of s.images e.operands)
+  below_now = images_below s.images k im small e.operands below
+
+  shaped : (b : Bool) (words : List ℕ) → eqb e.kind overriding ≡ b → Shaped (record { kind = cond b constant e.kind; words = words; operands = images_of s.images e.operands; span = e.span })
+  shaped b words x =
+      record {
+        row = ok.shaped.row;
+        known = known_now b e.kind ok.shaped.row x ok.shaped.known;
+        count = ap (admitted ok.shaped.row) (length-map e.operands (image_of s.images)) ∙ ok.shaped.count;
+        there = there_mapped s.images k im small ok.shaped.row e.operands below ok.shaped.there;
+      }
+
+  follows : (j : ℕ) → Below (length s.images) j → Follows now.operand was.operand s.images j
+  follows j (inl a) = inl a
+  follows j (inr l) =
+      let g = get_there s.images j l in
+      let x = imaged j g.0 g.1 in
+      inr (
+        g.0,
+        g.1,
+        (λ z. omega (arith, z, x.within, small)),
+        operand_is c (trees_of s.tables) g.0 ∙ x.tree_is,
+      )
+
+  args : args_of now.operand (images_of s.images e.operands) ≡ args_of was.operand e.operands
+  args = args_mapped now.operand was.operand s.images e.operands
+      (All-weaker (Below (length s.images)) (Follows now.operand was.operand s.images) follows e.operands below)
+
+  abbrev number : ℕ
+  number = unwrap_or (slice_get s.settled (word e 0)) absent
+
+  abbrev made : Bool → Node
+  made b = record { kind = cond b constant e.kind; words = cond b (number ∷ drop 1 e.words) e.words; operands = images_of s.images e.operands; span = e.span }
+
+  as_constant : eqb e.kind overriding ≡ true → Stands c k (made true) × (tree_next s.tables (made true) ≡ tree_of was e)
+  as_constant x = (
+    record {
+      shaped = shaped true (number ∷ drop 1 e.words) x;
+      below = below_now;
+      literal = λ z. absurd (omega (arith, z));
+      no_override = λ z. absurd (omega (arith, z));
+      named = λ _. subst (Named c k) (sym word_is) q.reads.named;
+    },
+    constant_read now (made true) refl
+        ∙ ap now.constant_at word_is
+        ∙ q.reads.tree_is
+        ∙ sym (override_read was e is),
+  )
+    where
+      is : e.kind ≡ overriding
+      is = eqb-true _ _ x
+
+      q : ReadsOverride s (was.override_at (word e 0)) (word e 0)
+      q = over is
+
+      word_is : number ≡ q.number
+      word_is = ap (λ n. unwrap_or n absent) q.there
+
+  as_itself : eqb e.kind overriding ≡ false → Stands c k (made false) × (tree_next s.tables (made false) ≡ tree_of was e)
+  as_itself x = (
+    record {
+      shaped = shaped false e.words x;
+      below = below_now;
+      literal = ok.literal;
+      no_override = eqb-false _ _ x;
+      named = λ z. (con z).named;
+    },
+    tree_same now was (made false) e refl refl args (λ z. (con z).tree_is) (λ z. absurd (eqb-false _ _ x z)),
+  )
+
+  pub entry_stands : Stood s e (tree_of was e)
+  entry_stands = let r = go (eqb e.kind overriding) refl in record { stands = r.0; tree_is = r.1 }
+    where
+      go : (b : Bool) → eqb e.kind overriding ≡ b → Stands c k (made b) × (tree_next s.tables (made b) ≡ tree_of was e)
+      go true x = as_constant x
+      go false x = as_itself x
+
+-- ---- an entry of a module
+
+abbrev old_reading : Old → List Tree → Reading
 old_reading o ts = reading_over ts o.inits (valued o.overrides) ts
 
 -- the entry at h is read over the trees of those before it
@@ -111,138 +232,41 @@ override_before o h p l (inr x) =
     ap (unwrap_or ((valued o.overrides).given p))
     (ap (tree_if (grown (old_reading o) [] (take h o.entries))) x.1 ∙ tree_before o h x.0 l x.2 ∙ sym (ap (tree_if (old_trees o)) x.1))
 
-named_by : (c : Constants) (k n m : ℕ) (init : NewConstant) → c.globals ≡ None → m ≡ n → slice_get c.list n ≡ Some init → init.mapped ≡ true → init.init < k → Named c k m
-named_by c k n m init none e there mapped l =
-    record {
-      init = init;
-      there = ap (slice_get c.list) e ∙ there;
-      mapped = mapped;
-      below = subst (λ x. init.init < x) (sym (ap (λ g. reach g k) none)) l;
-    }
-
-override_read : (r : Reading) (e : Node) → e.kind ≡ overriding → tree_of r e ≡ r.override_at (word e 0)
-unfolding tree_of
-override_read r e k = ap (λ x. tree_with x e.words (args_of r.operand e.operands) (r.constant_at (word e 0)) (r.override_at (word e 0))) k
-
-constant_read : (r : Reading) (e : Node) → e.kind ≡ constant → tree_of r e ≡ r.constant_at (word e 0)
-unfolding tree_of
-constant_read r e k = ap (λ x. tree_with x e.words (args_of r.operand e.operands) (r.constant_at (word e 0)) (r.override_at (word e 0))) k
-
--- e mapped may stand next, and has this tree
-pub record Stood (s : State) (e : Node) (tree : Tree) : Type 0 where
-  pub stands : Stands s.tables.constants (length s.tables.entries) (mapped s e)
-  pub tree_is : tree_next s.tables (mapped s e) ≡ tree
-
 -- the constant that override p was settled to has this tree
 pub record Settled (s : State) (tree : Tree) (p : ℕ) : Type 0 where
   pub number : ℕ
   pub there : slice_get s.settled p ≡ Some number
   pub resolved : Resolved s.tables tree number
 
+-- a constant of a module that is mapped is read at its init
+reads_of : (t : Tables) (tree : Tree) (n : ℕ) → t.constants.globals ≡ None → Resolved t tree n → Reads t tree n
+reads_of t tree n none x =
+    record {
+      named = record {
+        init = x.constant;
+        there = x.there;
+        mapped = x.mapped;
+        below = subst (λ b. x.constant.init < b) (sym (ap (λ g. reach g (length t.entries)) none)) x.within;
+      };
+      tree_is = constant_is t.constants (trees_of t) n x.constant none x.there ∙ x.tree_is;
+    }
+
 module _ (o : Old) (s : State) (hold : Holds o s) (h : ℕ) (at : length s.images ≡ h) (e : Node) (there : slice_get o.entries h ≡ Some e) (ok : Checked o h h e) where
-  abbrev c : Constants
-  c = s.tables.constants
-
-  abbrev k : ℕ
-  k = length s.tables.entries
-
   inside : h ≤ length o.entries
   inside = omega (arith, slice_get_within o.entries h e there)
 
-  im : (j i : ℕ) → slice_get s.images j ≡ Some i → i < k
-  im j i x = (hold.images j i x).within
+  imaged : (j i : ℕ) → slice_get s.images j ≡ Some i → Has s.tables ((reading_at o h).operand j) i
+  imaged j i x =
+      let q = hold.images j i x in
+      record { within = q.within; tree_is = q.tree_is ∙ sym (tree_before o h j inside (omega (arith, at, slice_get_within s.images j i x))) }
 
-  below : All (Below (length s.images)) e.operands
-  below = subst (λ n. All (Below n) e.operands) (sym at) ok.below
+  overrides : (tree : Tree) (p : ℕ) → Settled s tree p → ReadsOverride s tree p
+  overrides tree p q = record { number = q.number; there = q.there; reads = reads_of s.tables tree q.number hold.none q.resolved }
 
-  below_now : All (Below k) (images_of s.images e.operands)
-  below_now = images_below s.images k im hold.small e.operands below
-
-  shaped : (b : Bool) (words : List ℕ) → eqb e.kind overriding ≡ b → Shaped (record { kind = cond b constant e.kind; words = words; operands = images_of s.images e.operands; span = e.span })
-  shaped b words x =
-      record {
-        row = ok.shaped.row;
-        known = known_now b e.kind ok.shaped.row x ok.shaped.known;
-        count = ap (admitted ok.shaped.row) (length-map e.operands (image_of s.images)) ∙ ok.shaped.count;
-        there = there_mapped s.images k im hold.small ok.shaped.row e.operands below ok.shaped.there;
-      }
-
-  follows : (j : ℕ) → Below (length s.images) j → Follows (reading c (trees_of s.tables)).operand (reading_at o h).operand s.images j
-  follows j (inl a) = inl a
-  follows j (inr l) =
-      let g = get_there s.images j l in
-      let x = hold.images j g.0 g.1 in
-      inr (
-        g.0,
-        g.1,
-        (λ z. omega (arith, z, x.within, hold.small)),
-        operand_is c (trees_of s.tables) g.0 ∙ x.tree_is ∙ sym (tree_before o h j inside (omega (arith, l, at))),
-      )
-
-  args : args_of (reading c (trees_of s.tables)).operand (images_of s.images e.operands) ≡ args_of (reading_at o h).operand e.operands
-  args = args_mapped (reading c (trees_of s.tables)).operand (reading_at o h).operand s.images e.operands
-      (All-weaker (Below (length s.images)) (Follows (reading c (trees_of s.tables)).operand (reading_at o h).operand s.images) follows e.operands below)
-
-  module _ (con : e.kind ≡ constant → Resolved s.tables ((reading_at o h).constant_at (word e 0)) (word e 0)) (over : e.kind ≡ overriding → Settled s ((reading_at o h).override_at (word e 0)) (word e 0)) where
-    -- a constant that is mapped is read at its init
-    resolved_read : (tree : Tree) (n : ℕ) → Resolved s.tables tree n → (reading c (trees_of s.tables)).constant_at n ≡ tree
-    resolved_read tree n x = constant_is c (trees_of s.tables) n x.constant hold.none x.there ∙ x.tree_is
-
-    this : tree_at (old_trees o) h ≡ tree_of (reading_at o h) e
-    this = tree_there (old_reading o) o.entries h e there
-
-    abbrev number : ℕ
-    number = unwrap_or (slice_get s.settled (word e 0)) absent
-
-    abbrev made : Bool → Node
-    made b = record { kind = cond b constant e.kind; words = cond b (number ∷ drop 1 e.words) e.words; operands = images_of s.images e.operands; span = e.span }
-
-    as_constant : eqb e.kind overriding ≡ true → Stands c k (made true) × (tree_next s.tables (made true) ≡ tree_at (old_trees o) h)
-    as_constant x = (
-      record {
-        shaped = shaped true (number ∷ drop 1 e.words) x;
-        below = below_now;
-        literal = λ z. absurd (omega (arith, z));
-        no_override = λ z. absurd (omega (arith, z));
-        named = λ _. named_by c k q.number (word (made true) 0) q.resolved.constant hold.none word_is q.resolved.there q.resolved.mapped q.resolved.within;
-      },
-      constant_read (reading c (trees_of s.tables)) (made true) refl
-          ∙ ap (reading c (trees_of s.tables)).constant_at word_is
-          ∙ resolved_read ((reading_at o h).override_at (word e 0)) q.number q.resolved
-          ∙ sym (override_read (reading_at o h) e is)
-          ∙ sym this,
-    )
-      where
-        is : e.kind ≡ overriding
-        is = eqb-true _ _ x
-
-        q : Settled s ((reading_at o h).override_at (word e 0)) (word e 0)
-        q = over is
-
-        word_is : number ≡ q.number
-        word_is = ap (λ n. unwrap_or n absent) q.there
-
-    as_itself : eqb e.kind overriding ≡ false → Stands c k (made false) × (tree_next s.tables (made false) ≡ tree_at (old_trees o) h)
-    as_itself x = (
-      record {
-        shaped = shaped false e.words x;
-        below = below_now;
-        literal = ok.literal;
-        no_override = eqb-false _ _ x;
-        named = λ z. named (con z);
-      },
-      tree_same (reading c (trees_of s.tables)) (reading_at o h) (made false) e refl refl args
-          (λ z. resolved_read ((reading_at o h).constant_at (word e 0)) (word e 0) (con z))
-          (λ z. absurd (eqb-false _ _ x z))
-          ∙ sym this,
-    )
-      where
-        named : Resolved s.tables ((reading_at o h).constant_at (word e 0)) (word e 0) → Named c k (word e 0)
-        named q = named_by c k (word e 0) (word e 0) q.constant hold.none refl q.there q.mapped q.within
-
-    pub mapped_stands : Stood s e (tree_at (old_trees o) h)
-    mapped_stands = let r = go (eqb e.kind overriding) refl in record { stands = r.0; tree_is = r.1 }
-      where
-        go : (b : Bool) → eqb e.kind overriding ≡ b → Stands c k (made b) × (tree_next s.tables (made b) ≡ tree_at (old_trees o) h)
-        go true x = as_constant x
-        go false x = as_itself x
+  pub mapped_stands : (e.kind ≡ constant → Resolved s.tables ((reading_at o h).constant_at (word e 0)) (word e 0)) → (e.kind ≡ overriding → Settled s ((reading_at o h).override_at (word e 0)) (word e 0)) →
+      Stood s e (tree_at (old_trees o) h)
+  mapped_stands con over =
+      let r = entry_stands s (reading_at o h) hold.small imaged o h h at e ok
+      (λ z. reads_of s.tables ((reading_at o h).constant_at (word e 0)) (word e 0) hold.none (con z))
+      (λ z. overrides ((reading_at o h).override_at (word e 0)) (word e 0) (over z)) in
+      record { stands = r.stands; tree_is = r.tree_is ∙ sym (tree_there (old_reading o) o.entries h e there) }

@@ -1,7 +1,7 @@
 -- What the tables of an accepted module and of an accepted body are, node by node.
 use Rattle.std.specs.Prelude.{◌≡◌, ℕ, List, map, length, Some, false, option_and_then}
 use Rattle.std.specs.List.{slice_get}
-use Rattle.arena.specs.Nodes.{Node, nodes}
+use Rattle.arena.specs.Nodes.{nodes}
 use Rattle.rounding.specs.declared.literals.Literal.{Literal}
 use Rattle.rounding.specs.Literals.{type_of, literal_bits_of}
 use Rattle.refusals.specs.declared.Refusal.{Refusal}
@@ -11,7 +11,8 @@ use Rattle.ir.specs.Faults.{malformed}
 use Rattle.ir.specs.Tables.{Global, Local}
 use Rattle.ir.specs.Checks.{SourceFaults, BodyFaults}
 use Rattle.walking.specs.declared.overrides.Valued.{Valued}
-use Rattle.walking.specs.Laws.{Old, Checked, CheckedOld, given_at, init_at}
+use Rattle.walking.specs.Laws.{Old, CheckedOld, given_at, init_at}
+use Rattle.walking.specs.BodyLaws.{CheckedBody}
 
 -- the overrides of a module with what was given to them
 pub record ValuesOf (m : Global) (os : List Valued) : Type 0 where
@@ -45,4 +46,4 @@ AcceptedBody b = (r : Refusal) → BodyFaults b r → ⊥
 -- Each node of the body is well formed; the init of a constant that it names is an entry of the module.
 abbrev pub AcceptedBodyIsChecked : Type 0
 AcceptedBodyIsChecked = (m : Global) (os : List Valued) (b : Local) → Accepted m → ValuesOf m os → BodyOf m b → AcceptedBody b →
-    (h : ℕ) (e : Node) → slice_get (nodes b.entries b.operands) h ≡ Some e → Checked (old_of_global m os) h (length m.entries) e
+    CheckedBody (old_of_global m os) (length m.entries) (nodes b.entries b.operands)

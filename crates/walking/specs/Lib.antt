@@ -8,3 +8,7 @@ pub mod Laws
 pub mod Accepted
 pub mod Modules
 pub mod Stops
+pub mod BodyWalks
+pub mod BodyWorks
+pub mod BodyLaws
+pub mod Bodies

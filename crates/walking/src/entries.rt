@@ -10,55 +10,22 @@ ghost use Rattle.walking.specs.Walks.{ask_mapped, prepared, walk, walk_all, walk
 ghost use Rattle.walking.specs.Works.{Consulted, Mapped, Stepped, old_of, state_of};
 ghost use Rattle.walking.specs.Fulls.{refusal_of};
 
+use crate::images::{adjust, cut, kind_now, words_now};
 use crate::overrides::Valued;
 use crate::work::{Work, full};
-use arena::{ABSENT, Arena, Entry, Handle, Run, Span};
+use arena::{Arena, Entry, Handle, Run, Span};
 use evaluator::{Asked, Constants, Evaluated, ExpressionKindTracker, Fault, Folder, Tables};
 use kinds::Expression;
 use refusals::Refusal;
 
-// The operands that lie in a run.
-fn cut(operands: &[Handle], run: Run) -> &[Handle]
-    ensures { result.now ≡ cut run operands.now }
-{
-    let from = operands.len().min(run.at as usize);
-    let rest = &operands[from..];
-    &rest[..rest.len().min(run.len as usize)]
-}
-
-// An Override is from now on a Constant.
-fn kind_now(kind: u8) -> u8
-    ensures { result ≡ kind_now kind }
-{
-    if Expression::try_from(kind) == Ok(Expression::Override) {
-        Expression::Constant as u8
-    } else {
-        kind
-    }
-}
-
 impl Work<'_, '_, '_, '_, '_, '_, '_, '_, '_, '_> {
-    // The words of an entry: an Override has the number of its constant.
-    fn words_now(&self, kind: u8, words: [u32; 4]) -> [u32; 4]
-        ensures { result ≡ words_now (state_of self.now).settled kind words }
-    {
-        let mut now = words;
-        if Expression::try_from(kind) == Ok(Expression::Override) {
-            now[0] = self.settled.get(words[0]).unwrap_or(ABSENT);
-        }
-        now
-    }
-
     // Each operand of a run sent to its image; absent ones stay.
     fn adjust(&mut self, run: Run)
         ensures mapped { Mapped (λ s. s) self.old self.new }
         ensures scratch { items self.new.scratch.now ≡ images_of (state_of self.old).images (cut run self.old.operands.now) }
     {
-        self.scratch.clear();
-        for operand in cut(self.operands, run) {
-            let image = self.image_of(*operand);
-            let _ = self.scratch.push(image);
-        }
+        let operands = cut(self.operands, run);
+        adjust(self.images.as_slice(), operands, self.scratch);
     }
 
     // Asks the folder about an expression, whose operands are sent to their images by now.
@@ -101,7 +68,7 @@ impl Work<'_, '_, '_, '_, '_, '_, '_, '_, '_, '_> {
         ensures { Stepped (λ r s. ask_mapped (F.verdict folder.now) r (node self.old.operands.now entry) s) self.old self.new result }
     {
         self.adjust(entry.run);
-        let words = self.words_now(entry.kind, entry.words);
+        let words = words_now(self.settled.as_slice(), entry.kind, entry.words);
         let answer = self.consult(folder, kind_now(entry.kind), words, entry.span)?;
         self.note_image(answer)
     }

@@ -5,7 +5,8 @@ ghost use Rattle.arena.specs.Items.{limit};
 ghost use Rattle.evaluator.specs.Views.{AppendedIn, node_of};
 ghost use Rattle.walking.specs.Fulls.{global_full};
 
-use arena::{ABSENT, Arena, Entry, Handle, HandleVec, Table};
+use crate::images::image_of;
+use arena::{Arena, Entry, Handle, HandleVec, Table};
 use evaluator::{Asked, ExpressionKind, ExpressionKindTracker, FullTable, NewConstant, Tables};
 use places::TableName;
 use refusals::Refusal;
@@ -30,7 +31,7 @@ pub struct Work<'o, 'x, 'e, 't, 'k, 'c, 'm, 'i, 'n, 's> {
 impl Work<'_, '_, '_, '_, '_, '_, '_, '_, '_, '_> {
     ghost use Rattle.std.specs.Prelude.{ℕ, ◌∷◌, []};
     ghost use Rattle.walking.specs.States.{add, note_image};
-    ghost use Rattle.walking.specs.Images.{image_of, map_constant, map_rest, unmapped};
+    ghost use Rattle.walking.specs.Images.{map_constant, map_rest, unmapped};
     ghost use Rattle.walking.specs.Overrides.{add_constant, note_settled};
     ghost use Rattle.walking.specs.Works.{Mapped, Stepped, state_of};
 
@@ -53,17 +54,6 @@ impl Work<'_, '_, '_, '_, '_, '_, '_, '_, '_, '_> {
         })
     }
 
-    // The image of a handle that has one.
-    pub(crate) fn image_of(&self, handle: Handle) -> Handle
-        ensures { result ≡ image_of (state_of self.now).images handle }
-    {
-        if handle == ABSENT {
-            ABSENT
-        } else {
-            self.images.get(handle).unwrap_or(ABSENT)
-        }
-    }
-
     // The init of a constant that is not yet mapped.
     fn unmapped(&self, number: usize) -> Option<Handle>
         ensures { result ≡ unmapped (state_of self.now).tables.constants.list number }
@@ -77,7 +67,7 @@ impl Work<'_, '_, '_, '_, '_, '_, '_, '_, '_, '_> {
         ensures { Mapped (map_constant number) self.old self.new }
     {
         if let Some(old) = self.unmapped(number) {
-            let init = self.image_of(old);
+            let init = image_of(self.images.as_slice(), old);
             self.constants
                 .put(number, NewConstant { init, mapped: true });
         }
@@ -114,7 +104,7 @@ impl Work<'_, '_, '_, '_, '_, '_, '_, '_, '_, '_> {
 }
 
 // An expression at the end of a table. Apart from the walk, since of a field that is lent inside a struct nothing is known afterwards.
-fn append(
+pub(crate) fn append(
     expressions: &mut Arena,
     kinds: &mut ExpressionKindTracker<'_>,
     expr: Asked<'_>,

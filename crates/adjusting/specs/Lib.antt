@@ -1,0 +1,4 @@
+pub mod Emits
+pub mod Rules
+pub mod Turns
+pub mod Works

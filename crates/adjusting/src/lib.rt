@@ -1,0 +1,9 @@
+// The records of a body, rewritten for its finished entries: each operand sent to its image, and each Emit made anew of what is still
+// to be emitted.
+#![tactic(auto)]
+
+mod emits;
+mod work;
+
+pub use emits::Counts;
+pub use work::Inputs;

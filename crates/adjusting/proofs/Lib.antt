@@ -1,3 +1,5 @@
 mod Adding
 mod Cuts
+mod Sending
 mod Tilings
+mod Turning

@@ -1,5 +1,5 @@
 // An Emit, made anew: its handles are sent to their images, and each longest stretch of what is still to be emitted becomes an Emit.
-ghost use Rattle.std.specs.Prelude.{◌≡◌, ◌+◌, ◌<◌, ◌≤◌, min, [], ◌∷◌, length, IfSome, IfOk};
+ghost use Rattle.std.specs.Prelude.{◌≡◌, ◌+◌, ◌<◌, ◌≤◌, min, [], ◌∷◌, length, IfSome, IfOk, ◌==◌};
 ghost use Rattle.arena.specs.Nodes.{node_with};
 ghost use Rattle.blocks.specs.Weave.{emits};
 ghost use Rattle.adjusting.specs.Emits.{sent_to, kept, struck, emit_of, emits_of};
@@ -19,17 +19,18 @@ pub struct Counts {
 }
 
 // The open stretch goes on with this handle.
-fn goes_on(open: Range, image: Handle) -> bool
-    ensures { result ≡ (image == open.end) }
+fn goes_on(range: Range, image: Handle) -> bool
+    ensures { result ≡ (image == range.end) }
 {
-    image == open.index_range().end
+    image == range.index_range().end
 }
 
 impl Work<'_, '_, '_> {
     ghost use Rattle.adjusting.specs.Works.{Stepped, entries_of};
-    ghost use Rattle.adjusting.specs.Turns.{Extended, opened};
+    ghost use Rattle.adjusting.specs.Turns.{Counted, Extended, opened};
 
     // Where an emitted handle goes, unless it is struck.
+    #[tactic(auto, unfolding(crate::specs::Emits::sent_to))]
     fn sent_to(&self, handle: Handle) -> Option<Handle>
         ensures image { result ≡ sent_to self.now.inputs.images.now (entries_of self.now.inputs) handle }
         ensures small { IfSome result (λ image. image < 4294967295) }
@@ -40,10 +41,10 @@ impl Work<'_, '_, '_> {
     }
 
     // An Emit of the open stretch, if there is one.
-    fn emit(&mut self, old: Entry, open: Option<Range>) -> Result<(), Refusal>
-        ensures { Stepped (λ r s. add_all r (opened (node_with old []) open) s) self.old self.new result }
+    fn emit(&mut self, old: Entry, stretch: Option<Range>) -> Result<(), Refusal>
+        ensures { Stepped (λ r s. add_all r (opened (node_with old []) stretch) s) self.old self.new result }
     {
-        match open {
+        match stretch {
             Some(range) => {
                 let handles = range.index_range();
                 let words = [handles.start, handles.end, old.words[2], old.words[3]];
@@ -57,37 +58,41 @@ impl Work<'_, '_, '_> {
     fn extend(
         &mut self,
         old: Entry,
-        open: Option<Range>,
+        stretch: Option<Range>,
         image: Handle,
     ) -> Result<Range, Refusal>
         requires { image < 4294967295 }
-        ensures { Extended (node_with old []) open image self.old self.new result }
+        ensures { Extended (node_with old []) stretch image self.old self.new result }
     {
-        if let Some(range) = open && goes_on(range, image) {
+        if let Some(range) = stretch
+            && goes_on(range, image)
+        {
             return Ok(Range::new_from_bounds(range.index_range().start, image));
         }
-        self.emit(old, open)?;
+        self.emit(old, stretch)?;
         Ok(Range::new_from_bounds(image, image))
     }
 
     // The Emits in place of an old one, and what they count.
     pub(crate) fn adjust_emit(&mut self, old: Entry) -> Result<Counts, Refusal>
+        ensures wrote { Stepped (λ r s. add_all r (emits_of self.old.inputs.images.now (entries_of self.old.inputs) (node_with old [])) s) self.old self.new result }
+        ensures counts { IfOk result (λ counts. Counted self.old.inputs.images.now (entries_of self.old.inputs) (node_with old []) counts) }
     {
         let mut counts = Counts {
             emitted: 0,
             struck: 0,
         };
-        let mut open = None;
+        let mut stretch = None;
         for handle in old.words[0]..old.words[1] {
             match self.sent_to(handle) {
                 Some(image) => {
-                    open = Some(self.extend(old, open, image)?);
+                    stretch = Some(self.extend(old, stretch, image)?);
                     counts.emitted += 1;
                 }
                 None => counts.struck += 1,
             }
         }
-        self.emit(old, open)?;
+        self.emit(old, stretch)?;
         Ok(counts)
     }
 }

@@ -1,5 +1,6 @@
 mod Adding
 mod Cuts
+mod Leaving
 mod Sending
 mod Tilings
 mod Turning

@@ -52,13 +52,21 @@ counting e k s = record { records = s.records; emitted = s.emitted + e; struck =
 abbrev pub adjusted : List ℕ → Node → Node
 adjusted images n = record { kind = n.kind; words = n.words; operands = images_of images n.operands; span = n.span }
 
--- in place of an Emit, one for each longest stretch of what it still emits
-abbrev pub adjust_emit : Room → List ℕ → List Node → Node → State → Outcome
-adjust_emit r images fs n s =
-    then (add_all r (emits_of images fs n) s) (λ t. goes (counting (length (kept images fs (emits n))) (struck images fs (emits n)) t))
+-- The records that a record becomes: itself, adjusted; of an Emit one for each longest stretch of what it still emits.
+abbrev pub finished : List ℕ → List Node → Node → List Node
+finished images fs n = cond (is_emit n) (emits_of images fs n) (adjusted images n ∷ [])
 
+-- how many handles these emit, and how many were struck
+abbrev pub emits_now : List ℕ → List Node → Node → ℕ
+emits_now images fs n = cond (is_emit n) (length (kept images fs (emits n))) 0
+
+abbrev pub strikes_now : List ℕ → List Node → Node → ℕ
+strikes_now images fs n = cond (is_emit n) (struck images fs (emits n)) 0
+
+-- they are written, and then counted
 abbrev pub adjust_record : Room → List ℕ → List Node → Node → State → Outcome
-adjust_record r images fs n s = cond (is_emit n) (adjust_emit r images fs n s) (add r (adjusted images n) s)
+adjust_record r images fs n s =
+    then (add_all r (finished images fs n) s) (λ t. goes (counting (emits_now images fs n) (strikes_now images fs n) t))
 
 -- ---- all of them
 

@@ -3,6 +3,7 @@
 #![tactic(auto)]
 
 mod emits;
+mod statements;
 mod work;
 
 pub use emits::Counts;

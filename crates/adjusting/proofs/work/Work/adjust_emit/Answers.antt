@@ -26,9 +26,9 @@ loop-handle-preserved c =
     let here = ap (λ (i : Inputs). sent_to i.images.now (entries_of i) l.handle) l.invariant.lenders.inputs in
     let is = sym here ∙ sym c.sent_to.ensures.image in
     elim c.match-sent_to.branch [
-      in-Some+in_ok-extend-in-Some s ↦ rw (s.self-is, s.counts-is, s.stretch-is)
-        (keep w.inputs.images.now (entries_of w.inputs) n l.handle _ l.stretch l.counts w l.self c.loop-handle-test.true l.invariant
-        s.in-Some.image (is ∙ s.in-Some.is) s.in_ok-extend-in-Some.field-0 s.extend.new.self s.in_ok-extend-in-Some.ensures)
-    | in-None s ↦ rw (s.self-is, s.counts-is, s.stretch-is)
-        (strike w.inputs.images.now (entries_of w.inputs) n l.handle _ l.stretch l.counts w l.self c.loop-handle-test.true l.invariant (is ∙ s.in-None.is))
+      | in-Some+in_ok-extend-in-Some s ↦ rw (s.self-is, s.counts-is, s.stretch-is)
+          (keep w.inputs.images.now (entries_of w.inputs) n l.handle _ l.stretch l.counts w l.self c.loop-handle-test.true l.invariant
+          s.in-Some.image (is ∙ s.in-Some.is) s.in_ok-extend-in-Some.field-0 s.extend.new.self s.in_ok-extend-in-Some.ensures)
+      | in-None s ↦ rw (s.self-is, s.counts-is, s.stretch-is)
+          (strike w.inputs.images.now (entries_of w.inputs) n l.handle _ l.stretch l.counts w l.self c.loop-handle-test.true l.invariant (is ∙ s.in-None.is))
     ]

@@ -1,6 +1,7 @@
 mod Adding
 mod Cuts
 mod Leaving
+mod Nesting
 mod Sending
 mod Tilings
 mod Turning

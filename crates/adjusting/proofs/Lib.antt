@@ -1,4 +1,5 @@
 mod Adding
+mod Checking
 mod Cuts
 mod Leaving
 mod Nesting

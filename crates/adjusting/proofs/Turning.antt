@@ -14,7 +14,14 @@ use Rattle.adjusting.specs.Turns.{pending, left, Took, Extended}
 
 -- what stays of the tables, step after step
 pub lenders_on : (w a b : Work) → Lenders w a → Lenders a b → Lenders w b
-lenders_on w a b p q = record { inputs = q.inputs ∙ p.inputs; records = q.records ∙ p.records; operands = q.operands ∙ p.operands }
+lenders_on w a b p q =
+    record {
+      inputs = q.inputs ∙ p.inputs;
+      records = q.records ∙ p.records;
+      operands = q.operands ∙ p.operands;
+      records_stay = (q.records_stay.0 ∙ p.records_stay.0, q.records_stay.1 ∙ p.records_stay.1);
+      operands_stay = (q.operands_stay.0 ∙ p.operands_stay.0, q.operands_stay.1 ∙ p.operands_stay.1);
+    }
 
 -- a refusal is one whatever would have been answered
 pub refused : (A B : Type 0) (o : Outcome) (s : State) (e : Refusal) → Went {A = A} o s (Err e) → Went {A = B} o s (Err e)

@@ -1,4 +1,5 @@
 pub mod Emits
+pub mod Ends
 pub mod Places
 pub mod Rules
 pub mod Turns

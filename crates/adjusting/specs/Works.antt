@@ -2,7 +2,7 @@
 use Rattle.std.specs.Prelude.{◌≡◌, ℕ, min, List, Ok, Err, Result, drop}
 use Rattle.arena.specs.declared.entry.Entry.{Entry}
 use Rattle.arena.specs.declared.table.Table.{Table}
-use Rattle.arena.specs.Items.{items, limit}
+use Rattle.arena.specs.Items.{items, limit, Stays}
 use Rattle.arena.specs.Nodes.{Node, nodes}
 use Rattle.arena.specs.Appends.{nodes_of}
 use Rattle.refusals.specs.declared.Refusal.{Refusal}
@@ -36,11 +36,13 @@ written_of w = nodes (items w.records.now) (items w.operands.now)
 abbrev pub state_of : Work → State
 state_of w = record { records = written_of w; emitted = w.emitted; struck = w.struck }
 
--- what is read stays, and the tables are those that were lent
+-- what is read stays, and the tables are those that were lent, with the limits and the memory that they had
 pub record Lenders (a b : Work) : Type 0 where
   pub inputs : b.inputs ≡ a.inputs
   pub records : b.records.ghost_name ≡ a.records.ghost_name
   pub operands : b.operands.ghost_name ≡ a.operands.ghost_name
+  pub records_stay : Stays a.records.now b.records.now
+  pub operands_stay : Stays a.operands.now b.operands.now
 
 -- a step that goes on is answered by Ok, and one that stops by refusal 17 with its table; the tables are as the rules have them
 abbrev pub Went : {A : Type 0} → Outcome → State → Result A Refusal → Type 0

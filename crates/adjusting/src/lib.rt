@@ -2,9 +2,11 @@
 // to be emitted.
 #![tactic(auto)]
 
+mod body;
 mod emits;
 mod statements;
 mod work;
 
+pub use body::adjust_body;
 pub use emits::Counts;
 pub use work::Inputs;

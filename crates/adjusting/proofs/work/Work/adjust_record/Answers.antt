@@ -12,4 +12,4 @@ pub returns : goal.returns
 returns c =
     let counts = c.in_ok-counts.ensures.counts in
     record_on c.args.self.now c.write.new.self _ _ c.requires c.in_ok-counts.counts c.in_ok-counts.ensures.wrote counts.0 counts.1
-    (record { inputs = refl; records = refl; operands = refl }) refl refl refl tt
+    (record { inputs = refl; records = refl; operands = refl; records_stay = (refl, refl); operands_stay = (refl, refl) }) refl refl refl tt

@@ -1,6 +1,7 @@
 mod Adding
 mod Checking
 mod Cuts
+mod Ending
 mod Leaving
 mod Nesting
 mod Sending

@@ -4,6 +4,9 @@ mod Cuts
 mod Ending
 mod Leaving
 mod Nesting
+mod Order
 mod Sending
+mod Stretches
 mod Tilings
 mod Turning
+mod Written

@@ -6,6 +6,7 @@ ghost use Rattle.arena.specs.Tiles.{Tiled};
 ghost use Rattle.blocks.specs.Blocks.{OneBlock};
 ghost use Rattle.refusals.specs.Codes.{FirstOf};
 ghost use Rattle.adjusting.specs.Ends.{Came, Ended, RecordFaults, adjusted_body, held};
+ghost use Rattle.adjusting.specs.Laws.{LongestStretches};
 ghost use Rattle.adjusting.specs.Works.{records_of, room_for};
 
 use crate::emits::Counts;
@@ -84,3 +85,8 @@ pub fn adjust_body(
     operands.clear();
     adjust_checked(inputs, records, operands)
 }
+
+// The stretches that become Emits are the longest ones.
+pub fn stretches_stand()
+    ensures { LongestStretches }
+{}

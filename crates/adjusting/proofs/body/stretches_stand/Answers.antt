@@ -1,0 +1,7 @@
+use Rattle.adjusting.proofs.Stretches.{longest_stretches}
+use Rattle.adjusting.proofs.Order.{order, count_all, count_struck, count_new}
+use Rattle.adjusting.proofs.Written.{records_written}
+use Rattle.adjusting.proofs.body.stretches_stand.Goals as goal
+
+pub returns : goal.returns
+returns c = longest_stretches

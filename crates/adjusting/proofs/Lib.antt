@@ -8,5 +8,6 @@ mod Order
 mod Sending
 mod Stretches
 mod Tilings
+mod Trees
 mod Turning
 mod Written

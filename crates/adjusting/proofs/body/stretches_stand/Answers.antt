@@ -1,5 +1,6 @@
 use Rattle.adjusting.proofs.Stretches.{longest_stretches}
 use Rattle.adjusting.proofs.Order.{order, count_all, count_struck, count_new}
+use Rattle.adjusting.proofs.Trees.{new_body}
 use Rattle.adjusting.proofs.Written.{records_written}
 use Rattle.adjusting.proofs.body.stretches_stand.Goals as goal
 

@@ -3,6 +3,7 @@ mod Checking
 mod Cuts
 mod Ending
 mod Leaving
+mod Members
 mod Nesting
 mod Order
 mod Sending
@@ -10,4 +11,5 @@ mod Stretches
 mod Tilings
 mod Trees
 mod Turning
+mod Uses
 mod Written

@@ -7,6 +7,7 @@ mod Members
 mod Nesting
 mod Order
 mod Sending
+mod Sights
 mod Stretches
 mod Tilings
 mod Trees

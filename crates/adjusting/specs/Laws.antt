@@ -6,6 +6,7 @@ use Rattle.arena.specs.Nodes.{Node}
 use Rattle.blocks.specs.Blocks.{OneBlock}
 use Rattle.blocks.specs.Sight.{pre_emit, operands_of, InSight}
 use Rattle.blocks.specs.Weave.{Item, emitted, other, weave}
+use Rattle.operands.specs.Faults.{absent}
 use Rattle.walking.specs.Images.{image_of}
 use Rattle.adjusting.specs.declared.emits.Counts.{Counts}
 use Rattle.adjusting.specs.Emits.{sent_to, strikes, numbers, stretches}
@@ -60,7 +61,7 @@ pub record Sighted (es rs : List Node) : Type 0 where
 
 -- an emitted handle of an old entry is struck exactly if its image is pre-emit
 abbrev pub StrikesPreEmit : List Node → List Node → List ℕ → Type 0
-StrikesPreEmit es fs images = (h : ℕ) (e : Node) → slice_get es h ≡ Some e →
+StrikesPreEmit es fs images = (h : ℕ) (e : Node) → slice_get es h ≡ Some e → h < absent →
     sent_to images fs h ≡ cond (pre_emit (slice_get fs (image_of images h))) None (Some (image_of images h))
 
 -- ---- all of it

@@ -2,6 +2,7 @@ mod Adding
 mod Checking
 mod Cuts
 mod Ending
+mod Keeping
 mod Leaving
 mod Members
 mod Nesting

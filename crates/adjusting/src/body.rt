@@ -1,13 +1,13 @@
 // All the records of a body.
-ghost use Rattle.std.specs.Prelude.{◌≡◌, ◌≤◌, ℕ, List, [], OnOk, length};
+ghost use Rattle.std.specs.Prelude.{◌≡◌, ◌≤◌, ℕ, List, [], IfOk, OnOk, length};
 ghost use Rattle.arena.specs.Items.{Stays, items};
 ghost use Rattle.arena.specs.Nodes.{nodes};
 ghost use Rattle.arena.specs.Tiles.{Tiled};
 ghost use Rattle.blocks.specs.Blocks.{OneBlock};
 ghost use Rattle.refusals.specs.Codes.{FirstOf};
 ghost use Rattle.adjusting.specs.Ends.{Came, Ended, RecordFaults, adjusted_body, held};
-ghost use Rattle.adjusting.specs.Laws.{LongestStretches};
-ghost use Rattle.adjusting.specs.Works.{records_of, room_for};
+ghost use Rattle.adjusting.specs.Laws.{KeepsRecords, LongestStretches};
+ghost use Rattle.adjusting.specs.Works.{entries_of, records_of, room_for};
 
 use crate::emits::Counts;
 use crate::work::{Inputs, Work};
@@ -77,6 +77,7 @@ pub fn adjust_body(
     operands: &mut Table<Handle>,
 ) -> Result<Counts, Refusal>
     ensures ended { Ended inputs.entry records.old operands.old records.new operands.new result }
+    ensures keeps { IfOk result (λ counts. KeepsRecords inputs.entry.images.now (entries_of inputs.entry) (records_of inputs.entry) (held records.new operands.new) counts) }
     ensures stays { Stays records.old records.new × Stays operands.old operands.new }
     ensures tiled { OnOk result (Tiled (items records.new) (length (items operands.new))) }
 {

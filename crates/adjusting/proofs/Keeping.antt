@@ -1,0 +1,45 @@
+-- What the rewriting of a body's records keeps, where it goes to its end.
+use Rattle.std.proofs.Common.{◌≡◌, ℕ, ◌≤◌, List, [], length, Ok, Err, Result, IfOk, sym, ap, ◌∙◌, subst, arith}
+use Rattle.std.specs.List.{flat_map}
+use Rattle.arena.specs.declared.arena.Arena.{Arena}
+use Rattle.arena.specs.Appends.{entries_of as arena_entries, operands_of, nodes_of}
+use Rattle.arena.specs.Nodes.{Node}
+use Rattle.blocks.specs.Blocks.{OneBlock}
+use Rattle.blocks.specs.Weave.{weave}
+use Rattle.refusals.specs.declared.Refusal.{Refusal}
+use Rattle.adjusting.specs.declared.emits.Counts.{Counts}
+use Rattle.adjusting.specs.declared.work.Inputs.{Inputs}
+use Rattle.adjusting.specs.Rules.{Room, State, finished, none_yet}
+use Rattle.adjusting.specs.Works.{entries_of, records_of}
+use Rattle.adjusting.specs.Ends.{Came, adjusted_body}
+use Rattle.adjusting.specs.Laws.{KeepsRecords, Sighted, emitted_count}
+use Rattle.adjusting.proofs.Adding.{length_nodes}
+use Rattle.adjusting.proofs.Order.{order, count_all, count_new, count_struck}
+use Rattle.adjusting.proofs.Sights.{sight, strikes_pre_emit}
+use Rattle.adjusting.proofs.Trees.{new_body}
+use Rattle.adjusting.proofs.Written.{emitted_total, struck_total, records_written}
+
+-- an arena has no entry at the absent handle
+arena_small : (a : Arena) → length (nodes_of a) ≤ 4294967295
+arena_small a = omega (arith, length_nodes (arena_entries a) (operands_of a), a.small.0, a.entries.within)
+
+pub keeps_if : (i : Inputs) (r : Room) (ns : List Node) (x : Result Counts Refusal) → OneBlock (records_of i) 64 → Came (adjusted_body i r) ns x →
+    IfOk x (λ c. KeepsRecords i.images.now (entries_of i) (records_of i) ns c)
+keeps_if i r ns (Ok c) o e =
+    let images = i.images.now in
+    let fs = entries_of i in
+    let old = records_of i in
+    let w = records_written images fs r old none_yet (record { records = ns; emitted = c.emitted; struck = c.struck }) e in
+    let em : c.emitted ≡ emitted_total images fs old = omega (arith, w.emitted) in
+    let st : c.struck ≡ struck_total images fs old = omega (arith, w.struck) in
+    record {
+      is = w.records;
+      order = ap weave w.records ∙ order images fs old;
+      all = omega (arith, em, st, count_all images fs old);
+      emitted = em ∙ count_new images fs old ∙ ap (λ (l : List Node). emitted_count (weave l)) (sym w.records);
+      struck = st ∙ count_struck images fs old;
+      block = subst (λ (l : List Node). OneBlock l 64) (sym w.records) (new_body images fs old 64 o);
+      strikes = λ es k. strikes_pre_emit es fs images k (arena_small i.entries.now);
+      sight = λ es k s. subst (λ (l : List Node). Sighted fs l) (sym w.records) (sight es fs images k (arena_small i.entries.now) old s);
+    }
+keeps_if i r ns (Err e) o q = tt

@@ -1,6 +1,6 @@
 -- The refusals that come before anything is written.
-use Rattle.std.proofs.Common.{◌≡◌, ℕ, ◌<◌, ◌≤◌, ◌⊎◌, ◌==◌, true, false, Bool, List, [], ◌∷◌, length, None, Some, Err, MatchBool, inl, inr, refl, ap, ⊎_elim, subst, arith, lit<}
-use Rattle.std.proofs.lemmas.Bool.{cases_lt}
+use Rattle.std.proofs.Common.{◌≡◌, ℕ, ◌<◌, ◌≤◌, ◌⊎◌, ◌==◌, true, false, Bool, List, [], ◌∷◌, length, None, Some, Err, MatchBool, inl, inr, sym, refl, ap, ⊎_elim, subst, arith, lit<}
+use Rattle.std.proofs.lemmas.Bool.{cases_lt, eqb-true}
 use Rattle.arena.specs.Nodes.{Node}
 use Rattle.blocks.specs.Blocks.{Fault}
 use Rattle.places.specs.declared.Place.{Place}
@@ -8,6 +8,10 @@ use Rattle.places.specs.First.{At, Clean, Least, Over, number_of}
 use Rattle.refusals.specs.declared.Refusal.{Refusal}
 use Rattle.refusals.specs.declared.Refusal.TheVariants.{MalformedSettings, RepeatedKey, Misshapen, OutOfRange, NotOneBlock, NotFound, Nameless, MissingValue, SrcNeedsToBeFinite, DstRangeTooSmall, UnsupportedScalar, InitNotMapped, ConstantEvaluatorError, RuntimeExpr, NegativeWorkgroupSize, NegativeMeshOutputMax, Full}
 use Rattle.refusals.specs.Codes.{Earlier, FirstOf}
+use Rattle.arena.specs.Nodes.{nodes}
+use Rattle.ir.specs.Tables.{Local, local_shape}
+use Rattle.walking.specs.Accepted.{AcceptedBody}
+use Rattle.adjusting.proofs.Adding.{length_nodes}
 use Rattle.adjusting.specs.Ends.{Accepted, RecordFaults, over_limit}
 
 -- a table within its limit has no place over it
@@ -18,10 +22,10 @@ within_limit rs l p h = go (number_of p.table == 7) h
     go true o = omega (arith, o.1, l)
     go false o = o
 
--- what applies to such records is at a record
-module _ (rs : List Node) (l : length rs ≤ 65536) (P : Refusal → Type 0) (at : (k : ℕ) → Fault rs k → P (NotOneBlock k)) where
+-- what applies to records is of one of two sorts
+module _ (rs : List Node) (P : Refusal → Type 0) (over : (p : Place) → At (over_limit rs) p → P (Misshapen p)) (at : (k : ℕ) → Fault rs k → P (NotOneBlock k)) where
   pub by_record : (r : Refusal) → RecordFaults rs r → P r
-  by_record (Misshapen p) h = absurd (within_limit rs l p h)
+  by_record (Misshapen p) h = over p h
   by_record (OutOfRange p) h = absurd h
   by_record (NotOneBlock k) h = at k h
   by_record (Nameless k) h = absurd h
@@ -40,7 +44,7 @@ module _ (rs : List Node) (l : length rs ≤ 65536) (P : Refusal → Type 0) (at
   by_record (Full x) h = absurd h
 
 pub none_applies : (rs : List Node) → length rs ≤ 65536 → Least (Fault rs) None → Accepted rs
-none_applies rs l b r h = by_record rs l (λ _. ⊥) (λ k f. b k f) r h
+none_applies rs l b r h = by_record rs (λ _. ⊥) (within_limit rs l) (λ k f. b k f) r h
 
 earlier_record : (j k : ℕ) → Earlier (NotOneBlock j) (NotOneBlock k) → j < k
 earlier_record j k (inl m) = absurd (omega arith)
@@ -53,8 +57,23 @@ earlier_record j k (inr e) = go e.1
 pub first_record : (rs : List Node) (k : ℕ) → length rs ≤ 65536 → Least (Fault rs) (Some k) → FirstOf (RecordFaults rs) (Err (NotOneBlock k))
 first_record rs k l f = (
   f.0,
-  λ r e h. by_record rs l (λ r. Earlier r (NotOneBlock k) → ⊥) (λ j g e. f.1 j (earlier_record j k e) g) r h e,
+  λ r e h. by_record rs (λ r. Earlier r (NotOneBlock k) → ⊥) (λ p o e. within_limit rs l p o) (λ j g e. f.1 j (earlier_record j k e) g) r h e,
 )
 
 pub few : (n : ℕ) → Least (Over 65536 n) None → n ≤ 65536
 few n f = ⊎_elim (λ (l : 65536 < n). absurd (f 65536 (refl, l))) (λ l. l) (cases_lt 65536 n)
+
+-- ---- a body that is checked
+
+-- a table over its limit has a wrong shape
+shape_over : (b : Local) (p : Place) → At (over_limit (nodes b.records b.record_operands)) p → At (local_shape b) p
+shape_over b p h = go (number_of p.table == 7) refl h
+  where
+    go : (c : Bool) → (number_of p.table == 7) ≡ c → MatchBool c (Over 65536 (length (nodes b.records b.record_operands)) p.index) ⊥ → local_shape b (number_of p.table) p.index
+    go true e o =
+        subst (λ (t : ℕ). local_shape b t p.index) (sym (eqb-true (number_of p.table) 7 e))
+        (inl (subst (λ (n : ℕ). Over 65536 n p.index) (length_nodes b.records b.record_operands) o))
+    go false e o = absurd o
+
+pub accepted : (b : Local) → AcceptedBody b → Accepted (nodes b.records b.record_operands)
+accepted b a r h = by_record (nodes b.records b.record_operands) (λ _. ⊥) (λ p o. a (Misshapen p) (shape_over b p o)) (λ k f. a (NotOneBlock k) f) r h

@@ -1,5 +1,6 @@
 pub mod Emits
 pub mod Ends
+pub mod Examples
 pub mod Laws
 pub mod Places
 pub mod Rules

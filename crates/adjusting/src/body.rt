@@ -4,8 +4,11 @@ ghost use Rattle.arena.specs.Items.{Stays, items};
 ghost use Rattle.arena.specs.Nodes.{nodes};
 ghost use Rattle.arena.specs.Tiles.{Tiled};
 ghost use Rattle.blocks.specs.Blocks.{OneBlock};
+ghost use Rattle.ir.specs.Tables.{Local};
+ghost use Rattle.walking.specs.Accepted.{AcceptedBody};
 ghost use Rattle.refusals.specs.Codes.{FirstOf};
-ghost use Rattle.adjusting.specs.Ends.{Came, Ended, RecordFaults, adjusted_body, held};
+ghost use Rattle.adjusting.specs.Ends.{Accepted, Came, Ended, RecordFaults, adjusted_body, held};
+ghost use Rattle.adjusting.specs.Examples.{Examples};
 ghost use Rattle.adjusting.specs.Laws.{KeepsRecords, LongestStretches};
 ghost use Rattle.adjusting.specs.Works.{entries_of, records_of, room_for};
 
@@ -90,4 +93,15 @@ pub fn adjust_body(
 // The stretches that become Emits are the longest ones.
 pub fn stretches_stand()
     ensures { LongestStretches }
+{}
+
+// The rules, tried on small bodies.
+#[tactic(auto, unfolding(crate::specs::Emits::sent_to))]
+pub fn examples_stand()
+    ensures { Examples }
+{}
+
+// The records of a body that `check_body` accepts are not refused.
+pub fn checked_bodies_stand()
+    ensures { (b : Local) → AcceptedBody b → Accepted (nodes b.records b.record_operands) }
 {}

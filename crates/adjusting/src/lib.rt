@@ -7,6 +7,6 @@ mod emits;
 mod statements;
 mod work;
 
-pub use body::{adjust_body, stretches_stand};
+pub use body::{adjust_body, checked_bodies_stand, examples_stand, stretches_stand};
 pub use emits::Counts;
 pub use work::Inputs;

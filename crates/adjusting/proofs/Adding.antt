@@ -3,11 +3,10 @@ use Rattle.std.proofs.Common.{◌≡◌, ℕ, ◌+◌, ◌<◌, ◌≤◌, cond,
 use Rattle.std.proofs.lemmas.Bool.{lt-ltb, le-leb}
 use Rattle.std.proofs.lemmas.List.{length-map}
 use Rattle.places.specs.declared.TableName.TheVariants.{Records, RecordOperands}
-use Rattle.refusals.specs.declared.Refusal.{Refusal}
 use Rattle.arena.specs.declared.entry.Entry.{Entry}
 use Rattle.arena.specs.Nodes.{Node, node, nodes, operand_total}
 use Rattle.walking.specs.Images.{image_of, images_of}
-use Rattle.adjusting.specs.Rules.{Room, State, Outcome, goes, full, with_record, add}
+use Rattle.adjusting.specs.Rules.{Room, State, goes, full, with_record, add}
 use Rattle.adjusting.specs.Works.{Went}
 
 -- every operand has its image

@@ -1,10 +1,10 @@
 -- The refusals that come before anything is written.
-use Rattle.std.proofs.Common.{◌≡◌, ℕ, ◌<◌, ◌≤◌, ◌⊎◌, ◌==◌, true, false, Bool, List, [], ◌∷◌, length, None, Some, Err, MatchBool, inl, inr, sym, refl, ap, ⊎_elim, subst, arith, lit<}
+use Rattle.std.proofs.Common.{◌≡◌, ℕ, ◌<◌, ◌≤◌, ◌⊎◌, ◌==◌, true, false, Bool, List, length, None, Some, Err, MatchBool, inl, inr, sym, refl, ⊎_elim, subst, arith}
 use Rattle.std.proofs.lemmas.Bool.{cases_lt, eqb-true}
 use Rattle.arena.specs.Nodes.{Node}
 use Rattle.blocks.specs.Blocks.{Fault}
 use Rattle.places.specs.declared.Place.{Place}
-use Rattle.places.specs.First.{At, Clean, Least, Over, number_of}
+use Rattle.places.specs.First.{At, Least, Over, number_of}
 use Rattle.refusals.specs.declared.Refusal.{Refusal}
 use Rattle.refusals.specs.declared.Refusal.TheVariants.{MalformedSettings, RepeatedKey, Misshapen, OutOfRange, NotOneBlock, NotFound, Nameless, MissingValue, SrcNeedsToBeFinite, DstRangeTooSmall, UnsupportedScalar, InitNotMapped, ConstantEvaluatorError, RuntimeExpr, NegativeWorkgroupSize, NegativeMeshOutputMax, Full}
 use Rattle.refusals.specs.Codes.{Earlier, FirstOf}

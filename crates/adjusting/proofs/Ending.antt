@@ -1,5 +1,5 @@
 -- All the records of a body, from empty tables.
-use Rattle.std.proofs.Common.{◌≡◌, ◌++◌, [], List, Ok, sym, ap, ◌∙◌, append-nil}
+use Rattle.std.proofs.Common.{◌≡◌, [], List, Ok, sym, ap, ◌∙◌, append-nil}
 use Rattle.arena.specs.Nodes.{Node}
 use Rattle.blocks.specs.Blocks.{OneBlock, flat}
 use Rattle.adjusting.specs.declared.work.Work.{Work}

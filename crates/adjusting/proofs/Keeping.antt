@@ -1,6 +1,5 @@
 -- What the rewriting of a body's records keeps, where it goes to its end.
-use Rattle.std.proofs.Common.{◌≡◌, ℕ, ◌≤◌, List, [], length, Ok, Err, Result, IfOk, sym, ap, ◌∙◌, subst, arith}
-use Rattle.std.specs.List.{flat_map}
+use Rattle.std.proofs.Common.{◌≡◌, ◌≤◌, List, length, Ok, Err, Result, IfOk, sym, ap, ◌∙◌, subst, arith}
 use Rattle.arena.specs.declared.arena.Arena.{Arena}
 use Rattle.arena.specs.Appends.{entries_of as arena_entries, operands_of, nodes_of}
 use Rattle.arena.specs.Nodes.{Node}
@@ -9,7 +8,7 @@ use Rattle.blocks.specs.Weave.{weave}
 use Rattle.refusals.specs.declared.Refusal.{Refusal}
 use Rattle.adjusting.specs.declared.emits.Counts.{Counts}
 use Rattle.adjusting.specs.declared.work.Inputs.{Inputs}
-use Rattle.adjusting.specs.Rules.{Room, State, finished, none_yet}
+use Rattle.adjusting.specs.Rules.{Room, none_yet}
 use Rattle.adjusting.specs.Works.{entries_of, records_of}
 use Rattle.adjusting.specs.Ends.{Came, adjusted_body}
 use Rattle.adjusting.specs.Laws.{KeepsRecords, Sighted, emitted_count}

@@ -1,5 +1,5 @@
 -- One record on: what is left gives the whole.
-use Rattle.std.proofs.Common.{◌≡◌, ◌==◌, ℕ, ◌+◌, ◌<◌, Bool, true, false, cond, Decides, List, ◌∷◌, length, map, drop, slice_index_or, Ok, Err, Result, sym, refl, ap, ◌∙◌, subst, arith}
+use Rattle.std.proofs.Common.{◌≡◌, ◌==◌, ℕ, ◌+◌, ◌<◌, Bool, true, false, cond, Decides, List, ◌∷◌, length, map, drop, slice_index_or, Ok, Err, sym, refl, ap, ◌∙◌, subst, arith}
 use Rattle.std.proofs.lemmas.List.{drop_more, drop-map}
 use Rattle.arena.specs.declared.entry.Entry.{Entry}
 use Rattle.arena.specs.Nodes.{Node, node, nodes}

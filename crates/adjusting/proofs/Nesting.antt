@@ -1,5 +1,5 @@
 -- Where blocks end, and how far the walk over them has come.
-use Rattle.std.proofs.Common.{◌≡◌, ℕ, zero, suc, ◌+◌, ◌-◌, ◌<◌, true, false, Decides, List, [], ◌∷◌, ◌++◌, length, drop, OnOk, Ok, Err, Result, sym, refl, ap, ◌∙◌, subst, append_assoc, arith}
+use Rattle.std.proofs.Common.{◌≡◌, ℕ, zero, suc, ◌-◌, ◌<◌, true, false, Decides, List, [], ◌∷◌, ◌++◌, length, OnOk, Ok, Err, Result, sym, refl, ap, ◌∙◌, subst, append_assoc, arith}
 use Rattle.std.proofs.lemmas.Bool.{false≢true}
 use Rattle.std.proofs.lemmas.List.{length-drop}
 use Rattle.arena.specs.Nodes.{Node}
@@ -11,7 +11,7 @@ use Rattle.adjusting.specs.declared.work.Inputs.{Inputs}
 use Rattle.adjusting.specs.declared.work.Work.{Work}
 use Rattle.adjusting.specs.Rules.{Outcome}
 use Rattle.adjusting.specs.Works.{Lenders, Went, records_of, state_of}
-use Rattle.adjusting.specs.Places.{left_of, whole, Onward, Adjusted, Passed, BlockFrom, BlockTo, StmtFrom, StmtTo}
+use Rattle.adjusting.specs.Places.{left_of, Onward, Adjusted, Passed, BlockFrom, BlockTo, StmtFrom, StmtTo}
 use Rattle.adjusting.proofs.Adding.{length_nodes}
 use Rattle.adjusting.proofs.Turning.{lenders_on}
 

@@ -1,12 +1,12 @@
 -- Order and counts of the finished records.
-use Rattle.std.proofs.Common.{◌≡◌, ◌==◌, ℕ, suc, ◌+◌, Bool, true, false, cond, List, [], ◌∷◌, ◌++◌, map, length, Some, None, Option, sym, refl, ap, ◌∙◌, append_assoc, append-nil, arith}
+use Rattle.std.proofs.Common.{◌≡◌, ℕ, suc, ◌+◌, Bool, true, false, cond, List, [], ◌∷◌, ◌++◌, map, length, Some, None, Option, sym, refl, ap, ◌∙◌, append_assoc, arith}
 use Rattle.std.specs.List.{flat_map, cons_option}
 use Rattle.std.proofs.lemmas.List.{map-append}
 use Rattle.arena.specs.declared.range.Range.{Range}
 use Rattle.arena.specs.Nodes.{Node}
 use Rattle.blocks.specs.Weave.{is_emit, emits, Item, emitted, other, items_of, weave}
 use Rattle.adjusting.specs.Emits.{sent_to, kept, strikes, struck, numbers, stretches, emit_of, emits_of}
-use Rattle.adjusting.specs.Rules.{adjusted, finished, emits_now, strikes_now}
+use Rattle.adjusting.specs.Rules.{adjusted, finished, emits_now}
 use Rattle.adjusting.specs.Laws.{emitted_image, sent, emitted_count, struck_count}
 use Rattle.adjusting.proofs.Stretches.{stretched}
 use Rattle.adjusting.proofs.Written.{emitted_total, struck_total}

@@ -1,20 +1,20 @@
 -- What was in sight stays in sight.
 use Rattle.std.proofs.Common.{◌≡◌, ◌==◌, ℕ, ◌<◌, ◌≤◌, Bool, true, false, cond, not, ◌⊎◌, List, [], ◌∷◌, ◌++◌, map, length, get_or, unwrap_or, Some, None, Option, sym, refl, ap, ◌∙◌, subst, inl, inr, ⊎_elim, append_assoc, append-nil, arith}
 use Rattle.std.specs.List.{slice_get, flat_map, cons_option, ContainsAt as Has, AllByRecursion}
-use Rattle.std.proofs.lemmas.Bool.{eqb-true, eqb-false, eq-eqb, ne_eqb, true≢false}
+use Rattle.std.proofs.lemmas.Bool.{eqb-true, eqb-false, ne_eqb}
 use Rattle.std.proofs.lemmas.Option.{none-some, same_Some, slice_get_within, slice_get-get_or}
 use Rattle.kinds.specs.Kinds.{result_slot}
 use Rattle.operands.specs.Faults.{absent}
 use Rattle.arena.specs.declared.range.Range.{Range}
 use Rattle.arena.specs.Nodes.{Node}
-use Rattle.blocks.specs.Blocks.{Block, Stmts, Stmt, Blocks, block, end, also, stmt, none, more, OneBlock}
+use Rattle.blocks.specs.Blocks.{Block, Stmts, Stmt, Blocks, block, end, also, stmt, none, more}
 use Rattle.blocks.specs.Sight.{present, uses, results, is_pre_emit, pre_emit, Sees, operands_of, EmitSees, brings, brings_all, brought, is_loop, InSight, InSightStmts, InSightStmt, BlocksSee, LoopSees}
 use Rattle.blocks.specs.Weave.{is_emit, emits}
 use Rattle.walking.specs.Images.{image_of, images_of}
 use Rattle.adjusting.specs.Emits.{emitted_if, sent_to, kept, numbers, stretches, emit_of, emits_of}
 use Rattle.adjusting.specs.Rules.{adjusted, finished}
 use Rattle.adjusting.specs.Laws.{Comes, KeepsEntries, Sighted, StrikesPreEmit}
-use Rattle.adjusting.proofs.Members.{has_none, has_here, has_there, has_cons, has_left, has_right, has_cases, each_at, each_both, each_more}
+use Rattle.adjusting.proofs.Members.{has_none, has_here, has_there, has_cons, has_left, has_right, has_cases, each_at, each_both}
 use Rattle.adjusting.proofs.Stretches.{stretched}
 use Rattle.adjusting.proofs.Trees.{before, new_block, new_stmts, new_stmt, new_blocks, new_body}
 use Rattle.adjusting.proofs.Uses.{passing, uses_images, uses_are, results_images, results_are, image_absent, each_present}

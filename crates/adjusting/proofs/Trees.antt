@@ -1,10 +1,9 @@
 -- The finished records of one block are one block.
-use Rattle.std.proofs.Common.{◌≡◌, ◌==◌, ℕ, zero, suc, slice_index, Bool, true, false, cond, List, [], ◌∷◌, ◌++◌, map, sym, refl, ap, ◌∙◌, append_assoc, append-nil, subst, arith}
+use Rattle.std.proofs.Common.{◌≡◌, ◌==◌, ℕ, zero, suc, slice_index, Bool, true, false, cond, List, [], ◌∷◌, ◌++◌, map, sym, refl, ap, ◌∙◌, append-nil, arith}
 use Rattle.std.specs.List.{flat_map}
-use Rattle.std.proofs.lemmas.Bool.{eqb-true, ne_eqb}
+use Rattle.std.proofs.lemmas.Bool.{eqb-true}
 use Rattle.arena.specs.declared.range.Range.{Range}
 use Rattle.arena.specs.Nodes.{Node}
-use Rattle.kinds.specs.Kinds.{records, blocks_of}
 use Rattle.blocks.specs.declared.Role.{Role}
 use Rattle.blocks.specs.declared.Role.TheVariants.{Opening, Closing, Doing}
 use Rattle.blocks.specs.Blocks.{blocks_after_of, role_given_to, Block, Stmts, Stmt, Blocks, block, end, also, stmt, none, more, flat, flat_stmts, flat_stmt, flat_blocks, how_many, Shaped, ShapedStmts, ShapedStmt, ShapedBlocks, OneBlock}

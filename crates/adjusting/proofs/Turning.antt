@@ -1,5 +1,5 @@
 -- An Emit, handle by handle: what is left gives the whole.
-use Rattle.std.proofs.Common.{◌≡◌, ℕ, suc, ◌+◌, ◌-◌, ◌<◌, ◌≤◌, List, [], ◌∷◌, map, length, Some, None, Ok, Err, Option, Result, sym, refl, ap, ◌∙◌, subst, arith, slice_index}
+use Rattle.std.proofs.Common.{◌≡◌, ℕ, suc, ◌+◌, ◌-◌, ◌<◌, ◌≤◌, List, [], ◌∷◌, length, Some, None, Ok, Err, Option, sym, ap, ◌∙◌, subst, arith, slice_index}
 use Rattle.std.specs.List.{range_with_len, cons_option}
 use Rattle.arena.specs.declared.range.Range.{Range}
 use Rattle.arena.specs.Nodes.{Node}
@@ -7,10 +7,10 @@ use Rattle.blocks.specs.Weave.{emits}
 use Rattle.refusals.specs.declared.Refusal.{Refusal}
 use Rattle.adjusting.specs.declared.emits.Counts.{Counts}
 use Rattle.adjusting.specs.declared.work.Work.{Work}
-use Rattle.adjusting.specs.Emits.{sent_to, kept, strikes, struck, emit_of, emits_of}
+use Rattle.adjusting.specs.Emits.{sent_to, kept, strikes, struck, emits_of}
 use Rattle.adjusting.specs.Rules.{State, Outcome, goes, full, add_all}
 use Rattle.adjusting.specs.Works.{Lenders, Stepped, Went, room_of, state_of}
-use Rattle.adjusting.specs.Turns.{pending, left, Took, Extended}
+use Rattle.adjusting.specs.Turns.{left, Extended}
 
 -- what stays of the tables, step after step
 pub lenders_on : (w a b : Work) → Lenders w a → Lenders a b → Lenders w b

@@ -1,7 +1,7 @@
 -- What a record with its operands sent to their images uses and names.
-use Rattle.std.proofs.Common.{◌≡◌, ◌==◌, ℕ, Bool, true, false, cond, not, List, [], ◌∷◌, map, length, unwrap_or, Some, None, sym, refl, ap, ◌∙◌}
+use Rattle.std.proofs.Common.{◌≡◌, ◌==◌, ℕ, Bool, true, false, cond, not, List, [], ◌∷◌, length, unwrap_or, refl, ap, ◌∙◌}
 use Rattle.std.specs.List.{slice_get, AllByRecursion}
-use Rattle.std.proofs.lemmas.Bool.{eqb-true, eqb-false, eq-eqb}
+use Rattle.std.proofs.lemmas.Bool.{eqb-false, eq-eqb}
 use Rattle.kinds.specs.declared.Slot.{Slot}
 use Rattle.kinds.specs.Kinds.{records, result_slot}
 use Rattle.arena.specs.Nodes.{Node}

@@ -11,7 +11,7 @@ use Rattle.refusals.specs.declared.Refusal.TheVariants.{Full}
 use Rattle.refusals.specs.Codes.{Faulty, FirstOf}
 use Rattle.adjusting.specs.declared.emits.Counts.{Counts}
 use Rattle.adjusting.specs.declared.work.Inputs.{Inputs}
-use Rattle.adjusting.specs.Rules.{Room, State, Outcome, goes, full, adjust_records, none_yet}
+use Rattle.adjusting.specs.Rules.{Room, Outcome, goes, full, adjust_records, none_yet}
 use Rattle.adjusting.specs.Works.{entries_of, records_of, room_for}
 
 -- ---- before anything is written

@@ -1,5 +1,5 @@
 -- The records from a place on: what the rules make of them, and where a block, or a record with its blocks, ends.
-use Rattle.std.specs.Prelude.{◌≡◌, ◌<◌, ℕ, List, [], ◌∷◌, ◌++◌, drop, Ok, Err, Result, OnOk}
+use Rattle.std.specs.Prelude.{◌≡◌, ◌<◌, ℕ, List, ◌∷◌, ◌++◌, drop, Ok, Err, Result, OnOk}
 use Rattle.arena.specs.Nodes.{Node}
 use Rattle.blocks.specs.Blocks.{Block, Stmt, flat, flat_stmt, Shaped, ShapedStmt}
 use Rattle.refusals.specs.declared.Refusal.{Refusal}

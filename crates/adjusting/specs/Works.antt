@@ -1,5 +1,5 @@
 -- The tables as the program holds them while it rewrites records.
-use Rattle.std.specs.Prelude.{◌≡◌, ℕ, min, List, Ok, Err, Result, drop}
+use Rattle.std.specs.Prelude.{◌≡◌, ℕ, min, List, Ok, Err, Result}
 use Rattle.arena.specs.declared.entry.Entry.{Entry}
 use Rattle.arena.specs.declared.table.Table.{Table}
 use Rattle.arena.specs.Items.{items, limit, Stays}
@@ -9,7 +9,7 @@ use Rattle.refusals.specs.declared.Refusal.{Refusal}
 use Rattle.refusals.specs.declared.Refusal.TheVariants.{Full}
 use Rattle.adjusting.specs.declared.work.Inputs.{Inputs}
 use Rattle.adjusting.specs.declared.work.Work.{Work}
-use Rattle.adjusting.specs.Rules.{Room, State, Outcome, goes, full, adjust_records}
+use Rattle.adjusting.specs.Rules.{Room, State, Outcome, goes, full}
 
 -- ---- what is read
 

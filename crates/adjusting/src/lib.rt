@@ -5,6 +5,8 @@
 mod body;
 mod emits;
 mod statements;
+#[cfg(test)]
+mod tests;
 mod work;
 
 pub use body::{adjust_body, checked_bodies_stand, examples_stand, stretches_stand};

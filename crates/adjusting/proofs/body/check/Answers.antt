@@ -1,4 +1,4 @@
-use Rattle.std.proofs.Common.{◌≡◌, ◌≤◌, length, refl, rules, arith}
+use Rattle.std.proofs.Common.{length, refl, arith}
 use Rattle.arena.specs.Nodes.{nodes}
 use Rattle.adjusting.proofs.Adding.{length_nodes}
 use Rattle.adjusting.proofs.Checking.{few, first_record, none_applies}

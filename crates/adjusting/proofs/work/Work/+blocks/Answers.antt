@@ -1,4 +1,4 @@
-use Rattle.std.proofs.Common.{◌≡◌, ◌+◌, ◌-◌, ◌<◌, Err, suc, arith, rules}
+use Rattle.std.proofs.Common.{◌≡◌, ◌+◌, ◌-◌, Err, suc, arith, rules}
 use Rattle.std.proofs.Math.Nat.{sub-zero}
 use Rattle.blocks.specs.Blocks.{role_given_to}
 use Rattle.blocks.specs.declared.Role.TheVariants.{Closing}

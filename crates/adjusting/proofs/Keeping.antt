@@ -14,13 +14,10 @@ use Rattle.adjusting.specs.Ends.{Came, adjusted_body}
 use Rattle.adjusting.specs.Laws.{KeepsRecords, Sighted, emitted_count}
 use Rattle.adjusting.proofs.Adding.{length_nodes}
 use Rattle.adjusting.proofs.Order.{order, count_all, count_new, count_struck}
+use Rattle.adjusting.proofs.Sending.{arena_small}
 use Rattle.adjusting.proofs.Sights.{sight, strikes_pre_emit}
 use Rattle.adjusting.proofs.Trees.{new_body}
 use Rattle.adjusting.proofs.Written.{emitted_total, struck_total, records_written}
-
--- an arena has no entry at the absent handle
-arena_small : (a : Arena) → length (nodes_of a) ≤ 4294967295
-arena_small a = omega (arith, length_nodes (arena_entries a) (operands_of a), a.small.0, a.entries.within)
 
 pub keeps_if : (i : Inputs) (r : Room) (ns : List Node) (x : Result Counts Refusal) → OneBlock (records_of i) 64 → Came (adjusted_body i r) ns x →
     IfOk x (λ c. KeepsRecords i.images.now (entries_of i) (records_of i) ns c)

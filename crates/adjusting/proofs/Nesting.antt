@@ -124,12 +124,12 @@ stmt_starts d xs b = go b.tree b.is
 abbrev pub Due : List Node → ℕ → Type 0
 Due xs k = (n : Node) (ns : List Node) (count : ℕ) → xs ≡ n ∷ ns → role_given_to n ≡ Doing count → k ≡ count
 
-pub stmt_opened : (d k : ℕ) (xs ys : List Node) → Due xs k → Passed xs ys → (tree : Stmt) (rest : List Node) → ShapedStmt tree d → xs ≡ flat_stmt tree ++ rest → BlocksLeft d k ys rest
-stmt_opened d k xs ys due p (stmt n bs) rest s i =
+pub stmt_opened : (d k j : ℕ) (xs ys : List Node) → k ≡ j → Due xs k → Passed xs ys → (tree : Stmt) (rest : List Node) → ShapedStmt tree d → xs ≡ flat_stmt tree ++ rest → BlocksLeft d j ys rest
+stmt_opened d k j xs ys e due p (stmt n bs) rest s i =
     record {
       blocks = bs;
       shaped = s.1;
-      many = sym (due n (flat_blocks bs ++ rest) (how_many bs) i s.0);
+      many = sym (due n (flat_blocks bs ++ rest) (how_many bs) i s.0) ∙ e;
       is = tail_of (sym p.is ∙ i);
     }
 

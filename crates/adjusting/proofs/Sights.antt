@@ -2,7 +2,6 @@
 use Rattle.std.proofs.Common.{◌≡◌, ◌==◌, ℕ, ◌<◌, ◌≤◌, Bool, true, false, cond, not, ◌⊎◌, List, [], ◌∷◌, ◌++◌, map, length, get_or, unwrap_or, Some, None, Option, sym, refl, ap, ◌∙◌, subst, inl, inr, ⊎_elim, append_assoc, append-nil, arith}
 use Rattle.std.specs.List.{slice_get, flat_map, cons_option, ContainsAt as Has, AllByRecursion}
 use Rattle.std.proofs.lemmas.Bool.{eqb-true, eqb-false, ne_eqb}
-use Rattle.std.proofs.lemmas.Option.{none-some, same_Some, slice_get_within, slice_get-get_or}
 use Rattle.kinds.specs.Kinds.{result_slot}
 use Rattle.operands.specs.Faults.{absent}
 use Rattle.arena.specs.declared.range.Range.{Range}
@@ -15,6 +14,7 @@ use Rattle.adjusting.specs.Emits.{emitted_if, sent_to, kept, numbers, stretches,
 use Rattle.adjusting.specs.Rules.{adjusted, finished}
 use Rattle.adjusting.specs.Laws.{Comes, KeepsEntries, Sighted, StrikesPreEmit}
 use Rattle.adjusting.proofs.Members.{has_none, has_here, has_there, has_cons, has_left, has_right, has_cases, each_at, each_both}
+use Rattle.adjusting.proofs.Sending.{sent_none, sent_some}
 use Rattle.adjusting.proofs.Stretches.{stretched}
 use Rattle.adjusting.proofs.Trees.{before, new_block, new_stmts, new_stmt, new_blocks, new_body}
 use Rattle.adjusting.proofs.Uses.{passing, uses_images, uses_are, results_images, results_are, image_absent, each_present}
@@ -57,43 +57,6 @@ image_there images h n = go (h == absent) (slice_get images h) refl n
     go true o e n = absurd (n refl)
     go false None e n = absurd (n refl)
     go false (Some i) e n = (i, e, refl)
-
--- what a handle is sent to
-pub record Sent (images : List ℕ) (fs : List Node) (h i : ℕ) : Type 0 where
-  pub image : i ≡ image_of images h
-  pub emits : pre_emit (slice_get fs i) ≡ false
-  pub within : i < length fs
-
-sent_some : (images : List ℕ) (fs : List Node) (h i : ℕ) → sent_to images fs h ≡ Some i → Sent images fs h i
-unfolding sent_to
-sent_some images fs h i e = go (slice_get fs (image_of images h)) refl e
-  where
-    last : (n : Node) → slice_get fs (image_of images h) ≡ Some n → (b : Bool) → is_pre_emit n.kind ≡ b → cond b None (Some (image_of images h)) ≡ Some i → Sent images fs h i
-    last n s true p q = absurd (none-some i q)
-    last n s false p q =
-        let same : i ≡ image_of images h = sym (same_Some (image_of images h) i q) in
-        let there : slice_get fs i ≡ Some n = ap (slice_get fs) same ∙ s in
-        record { image = same; emits = ap pre_emit there ∙ p; within = slice_get_within fs i n there }
-
-    go : (o : Option Node) → slice_get fs (image_of images h) ≡ o → emitted_if (image_of images h) o ≡ Some i → Sent images fs h i
-    go None s q = absurd (none-some i q)
-    go (Some n) s q = last n s (is_pre_emit n.kind) refl q
-
--- what is read past the end
-abbrev blank : Node
-blank = record { kind = 0; words = []; operands = []; span = record { start = 0; end = 0 } }
-
-sent_none : (images : List ℕ) (fs : List Node) (h : ℕ) → sent_to images fs h ≡ None → image_of images h < length fs → pre_emit (slice_get fs (image_of images h)) ≡ true
-unfolding sent_to
-sent_none images fs h e l = go (slice_get fs (image_of images h)) refl e
-  where
-    last : (n : Node) → slice_get fs (image_of images h) ≡ Some n → (b : Bool) → is_pre_emit n.kind ≡ b → cond b None (Some (image_of images h)) ≡ None → pre_emit (slice_get fs (image_of images h)) ≡ true
-    last n s true p q = ap pre_emit s ∙ p
-    last n s false p q = absurd (none-some (image_of images h) (sym q))
-
-    go : (o : Option Node) → slice_get fs (image_of images h) ≡ o → emitted_if (image_of images h) o ≡ None → pre_emit (slice_get fs (image_of images h)) ≡ true
-    go None s q = absurd (none-some (get_or fs (image_of images h) blank) (sym s ∙ slice_get-get_or fs (image_of images h) blank l))
-    go (Some n) s q = last n s (is_pre_emit n.kind) refl q
 
 each_operand : (o : Option Node) → AllByRecursion (λ x. x ≡ absent → ⊥) (operands_of o)
 each_operand None = tt

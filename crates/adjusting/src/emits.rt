@@ -1,5 +1,5 @@
 // An Emit, made anew: its handles are sent to their images, and each longest stretch of what is still to be emitted becomes an Emit.
-ghost use Rattle.std.specs.Prelude.{◌≡◌, ◌+◌, ◌<◌, ◌≤◌, min, [], ◌∷◌, length, IfSome, IfOk, ◌==◌};
+ghost use Rattle.std.specs.Prelude.{◌≡◌, ◌+◌, ◌<◌, ◌≤◌, min, [], ◌∷◌, length, IfOk, ◌==◌};
 ghost use Rattle.arena.specs.Nodes.{node_with};
 ghost use Rattle.blocks.specs.Weave.{emits};
 ghost use Rattle.adjusting.specs.Emits.{sent_to, kept, struck, emit_of, emits_of};
@@ -32,8 +32,7 @@ impl Work<'_, '_, '_> {
     // Where an emitted handle goes, unless it is struck.
     #[tactic(auto, unfolding(crate::specs::Emits::sent_to))]
     fn sent_to(&self, handle: Handle) -> Option<Handle>
-        ensures image { result ≡ sent_to self.now.inputs.images.now (entries_of self.now.inputs) handle }
-        ensures small { IfSome result (λ image. image < 4294967295) }
+        ensures { result ≡ sent_to self.now.inputs.images.now (entries_of self.now.inputs) handle }
     {
         let image = image_of(self.inputs.images, handle);
         let kind = self.inputs.entries.kind(image)?;

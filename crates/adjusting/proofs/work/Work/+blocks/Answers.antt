@@ -1,5 +1,4 @@
 use Rattle.std.proofs.Common.{◌≡◌, ◌+◌, ◌-◌, Err, suc, arith, rules}
-use Rattle.std.proofs.Math.Nat.{sub-zero}
 use Rattle.blocks.specs.Blocks.{role_given_to}
 use Rattle.blocks.specs.declared.Role.TheVariants.{Closing}
 use Rattle.adjusting.specs.Places.{BlockTo, Passed, StmtTo, left_of}
@@ -89,7 +88,7 @@ adjust_stmt-loop-init t c =
     let p = c.in_ok-adjust_record.ensures in
     record {
       adjusted = somewhere Passed w c.adjust_record.new.self _ p;
-      left = λ tree rest shaped is. rw sub-zero (stmt_opened c.args.depth c.blocks_due-count.result (left_of w) (left_of c.adjust_record.new.self) c.blocks_due-count.ensures p.to tree rest shaped is);
+      left = stmt_opened c.args.depth c.blocks_due-count.result _ (left_of w) (left_of c.adjust_record.new.self) (omega arith) c.blocks_due-count.ensures p.to;
     }
 
 pub adjust_stmt-adjust_block-requires : goal.adjust_stmt-adjust_block-requires

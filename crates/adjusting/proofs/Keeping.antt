@@ -11,7 +11,7 @@ use Rattle.adjusting.specs.declared.work.Inputs.{Inputs}
 use Rattle.adjusting.specs.Rules.{Room, none_yet}
 use Rattle.adjusting.specs.Works.{entries_of, records_of}
 use Rattle.adjusting.specs.Ends.{Came, adjusted_body}
-use Rattle.adjusting.specs.Laws.{KeepsRecords, Sighted, emitted_count}
+use Rattle.adjusting.specs.Laws.{KeepsRecords, Sighted, WalkKeepsEntries, emitted_count}
 use Rattle.adjusting.proofs.Adding.{length_nodes}
 use Rattle.adjusting.proofs.Order.{order, count_all, count_new, count_struck}
 use Rattle.adjusting.proofs.Sending.{arena_small}
@@ -39,3 +39,6 @@ keeps_if i r ns (Ok c) o e =
       sight = λ es k s. subst (λ (l : List Node). Sighted fs l) (sym w.records) (sight es fs images k (arena_small i.entries.now) old s);
     }
 keeps_if i r ns (Err e) o q = tt
+
+pub walk_keeps_entries : WalkKeepsEntries
+walk_keeps_entries o f b es k = record { every_handle = k.every_handle; within = λ h i s. (k.images h i s).0; sends = k.sends }

@@ -36,7 +36,7 @@ sent_some images fs h i e = go (slice_get fs (image_of images h)) refl e
     go (Some n) s q = last n s (is_pre_emit n.kind) refl q
 
 -- what is read past the end
-abbrev blank : Node
+abbrev pub blank : Node
 blank = record { kind = 0; words = []; operands = []; span = record { start = 0; end = 0 } }
 
 pub sent_none : (images : List ℕ) (fs : List Node) (h : ℕ) → sent_to images fs h ≡ None → image_of images h < length fs → pre_emit (slice_get fs (image_of images h)) ≡ true

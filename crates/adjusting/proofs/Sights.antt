@@ -2,6 +2,8 @@
 use Rattle.std.proofs.Common.{◌≡◌, ◌==◌, ℕ, ◌<◌, ◌≤◌, Bool, true, false, cond, not, ◌⊎◌, List, [], ◌∷◌, ◌++◌, map, length, get_or, unwrap_or, Some, None, Option, sym, refl, ap, ◌∙◌, subst, inl, inr, ⊎_elim, append_assoc, append-nil, arith}
 use Rattle.std.specs.List.{slice_get, flat_map, cons_option, ContainsAt as Has, AllByRecursion}
 use Rattle.std.proofs.lemmas.Bool.{eqb-true, eqb-false, ne_eqb}
+use Rattle.std.proofs.lemmas.List.Elements.{recursion_from_All}
+use Rattle.std.proofs.lemmas.Option.{slice_get_within, slice_get-get_or}
 use Rattle.kinds.specs.Kinds.{result_slot}
 use Rattle.operands.specs.Faults.{absent}
 use Rattle.arena.specs.declared.range.Range.{Range}
@@ -10,14 +12,15 @@ use Rattle.blocks.specs.Blocks.{Block, Stmts, Stmt, Blocks, block, end, also, st
 use Rattle.blocks.specs.Sight.{present, uses, results, is_pre_emit, pre_emit, Sees, operands_of, EmitSees, brings, brings_all, brought, is_loop, InSight, InSightStmts, InSightStmt, BlocksSee, LoopSees}
 use Rattle.blocks.specs.Weave.{is_emit, emits}
 use Rattle.walking.specs.Images.{image_of, images_of}
+use Rattle.walking.specs.BodyLaws.{Brought}
 use Rattle.adjusting.specs.Emits.{emitted_if, sent_to, kept, numbers, stretches, emit_of, emits_of}
 use Rattle.adjusting.specs.Rules.{adjusted, finished}
-use Rattle.adjusting.specs.Laws.{Comes, KeepsEntries, Sighted, StrikesPreEmit}
+use Rattle.adjusting.specs.Laws.{KeepsEntries, Sighted, StrikesPreEmit}
 use Rattle.adjusting.proofs.Members.{has_none, has_here, has_there, has_cons, has_left, has_right, has_cases, each_at, each_both}
-use Rattle.adjusting.proofs.Sending.{sent_none, sent_some}
+use Rattle.adjusting.proofs.Sending.{blank, sent_none, sent_some}
 use Rattle.adjusting.proofs.Stretches.{stretched}
 use Rattle.adjusting.proofs.Trees.{before, new_block, new_stmts, new_stmt, new_blocks, new_body}
-use Rattle.adjusting.proofs.Uses.{passing, uses_images, uses_are, results_images, results_are, image_absent, each_present}
+use Rattle.adjusting.proofs.Uses.{passing, uses_images, uses_are, results_images, results_are, image_absent, image_from, each_kept, each_present}
 
 -- ---- sight grows with what is in sight
 
@@ -58,10 +61,6 @@ image_there images h n = go (h == absent) (slice_get images h) refl n
     go false None e n = absurd (n refl)
     go false (Some i) e n = (i, e, refl)
 
-each_operand : (o : Option Node) → AllByRecursion (λ x. x ≡ absent → ⊥) (operands_of o)
-each_operand None = tt
-each_operand (Some e) = each_present e.operands
-
 -- What is in sight before is in sight after, by its image.
 abbrev pub Carried : List ℕ → List Node → List ℕ → List ℕ → Type 0
 Carried images fs s t = (h : ℕ) → (image_of images h ≡ absent → ⊥) → Has s h → Sees fs t (image_of images h)
@@ -75,9 +74,9 @@ module _ (es fs : List Node) (images : List ℕ) (k : KeepsEntries es fs images)
     where
       in_table : image_of images h < length fs
       in_table =
-          let i = k.every_handle h e s in
-          let is : image_of images h ≡ i.0 = ap (λ (b : Bool). cond b absent (unwrap_or (slice_get images h) absent)) (ne_eqb h absent (λ z. omega (arith, z, l))) ∙ ap (λ (o : Option ℕ). unwrap_or o absent) i.1 in
-          subst (λ (x : ℕ). x < length fs) (sym is) (k.within h i.0 i.1)
+          let i = slice_get-get_or images h absent (omega (arith, slice_get_within es h e s, k.every_handle)) in
+          let is : image_of images h ≡ get_or images h absent = ap (λ (b : Bool). cond b absent (unwrap_or (slice_get images h) absent)) (ne_eqb h absent (λ z. omega (arith, z, l))) ∙ ap (λ (o : Option ℕ). unwrap_or o absent) i in
+          subst (λ (x : ℕ). x < length fs) (sym is) (k.within h (get_or images h absent) i)
 
       go : (o : Option ℕ) → sent_to images fs h ≡ o → o ≡ cond (pre_emit (slice_get fs (image_of images h))) None (Some (image_of images h))
       go None q = sym (ap (λ (b : Bool). cond b None (Some (image_of images h))) (sent_none images fs h q in_table))
@@ -92,7 +91,7 @@ module _ (es fs : List Node) (images : List ℕ) (k : KeepsEntries es fs images)
       (λ r. sees_more fs v (t ++ v) (image_of images h) (λ y b. has_right y t v b) (d h p r)) (has_cases h s u a)
 
   sees_image : (s t : List ℕ) → Carried images fs s t → (h : ℕ) → (image_of images h ≡ absent → ⊥) → Sees es s h → Sees fs t (image_of images h)
-  sees_image s t c h p (inl q) = let i = image_there images h p in inl (ap (λ (x : ℕ). pre_emit (slice_get fs x)) i.2 ∙ k.stays_pre_emit h i.0 i.1 q)
+  sees_image s t c h p (inl q) = let i = image_there images h p in inl (ap (λ (x : ℕ). pre_emit (slice_get fs x)) i.2 ∙ k.sends.pre_emit_stays h i.0 i.1 q)
   sees_image s t c h p (inr a) = c h p a
 
   each_image : (s t os : List ℕ) → Carried images fs s t → AllByRecursion (Sees es s) (present os) → AllByRecursion (Sees fs t) (present (images_of images os))
@@ -153,12 +152,19 @@ module _ (es fs : List Node) (images : List ℕ) (k : KeepsEntries es fs images)
       let x = sent_some images fs h i e in
       let j = image_there images h (λ z. omega (arith, x.within, small, x.image, z)) in
       let same : slice_get images h ≡ Some i = j.1 ∙ ap Some (sym j.2 ∙ sym x.image) in
-      each_both (Comes images fs (operands_of (slice_get es h))) (λ y. y ≡ absent → ⊥) (Sees fs t) (operands_of (slice_get fs i)) one (k.operands h i same x.emits) (each_operand (slice_get fs i))
+      let old = slice_get-get_or es h blank (omega (arith, slice_get_within images h i same, k.every_handle)) in
+      let new = slice_get-get_or fs i blank x.within in
+      let all = recursion_from_All _ _ (k.sends.operands h i (get_or es h blank) (get_or fs i blank) same old new (sym (ap pre_emit new) ∙ x.emits)) in
+      subst (λ (o : Option Node). AllByRecursion (Sees fs t) (operands_of o)) (sym new)
+      (each_both (Brought fs images (get_or es h blank)) (λ y. y ≡ absent → ⊥) (Sees fs t) (present (get_or fs i blank).operands)
+      (one (get_or es h blank) (subst (λ (o : Option Node). AllByRecursion (Sees es s) (operands_of o)) old see))
+      (each_kept (Brought fs images (get_or es h blank)) (get_or fs i blank).operands all) (each_present (get_or fs i blank).operands))
     where
-      one : (y : ℕ) → Comes images fs (operands_of (slice_get es h)) y → (y ≡ absent → ⊥) → Sees fs t y
-      one y (inl p) q = inl p
-      one y (inr p) q =
-          subst (Sees fs t) (sym p.2) (sees_image s t c p.0 (λ z. q (p.2 ∙ z)) (each_at (Sees es s) (operands_of (slice_get es h)) p.0 see p.1))
+      one : (n : Node) → AllByRecursion (Sees es s) (present n.operands) → (y : ℕ) → Brought fs images n y → (y ≡ absent → ⊥) → Sees fs t y
+      one n see y (inr p) q = inl p
+      one n see y (inl p) q =
+          let o = image_from images n.operands y p q in
+          subst (Sees fs t) (sym o.2) (sees_image s t c o.0 (λ z. q (o.2 ∙ z)) (each_at (Sees es s) (present n.operands) o.0 see o.1))
 
   emit_sees : (hs s t : List ℕ) → Carried images fs s t → EmitSees es s hs → EmitSees fs t (kept images fs hs)
   emit_sees [] s t c e = tt

@@ -1,6 +1,6 @@
 -- What a record with its operands sent to their images uses and names.
-use Rattle.std.proofs.Common.{◌≡◌, ◌==◌, ℕ, Bool, true, false, cond, not, List, [], ◌∷◌, length, unwrap_or, refl, ap, ◌∙◌}
-use Rattle.std.specs.List.{slice_get, AllByRecursion}
+use Rattle.std.proofs.Common.{◌≡◌, ◌==◌, ℕ, Bool, true, false, cond, not, ◌⊎◌, List, [], ◌∷◌, length, unwrap_or, sym, refl, ap, ◌∙◌, inl, inr}
+use Rattle.std.specs.List.{slice_get, ContainsAt as Has, AllByRecursion}
 use Rattle.std.proofs.lemmas.Bool.{eqb-false, eq-eqb}
 use Rattle.kinds.specs.declared.Slot.{Slot}
 use Rattle.kinds.specs.Kinds.{records, result_slot}
@@ -9,6 +9,7 @@ use Rattle.operands.specs.Faults.{absent}
 use Rattle.blocks.specs.Sight.{present, slots_for, picked, operands_that, uses, results}
 use Rattle.walking.specs.Images.{image_of, images_of}
 use Rattle.adjusting.specs.Rules.{adjusted}
+use Rattle.adjusting.proofs.Members.{has_none, has_here, has_there, has_cons}
 use Rattle.adjusting.proofs.Adding.{length_images}
 
 picked_images : (images : List ℕ) (test : Slot → Bool) (ss : List Slot) (hs : List ℕ) → picked test ss (images_of images hs) ≡ images_of images (picked test ss hs)
@@ -64,3 +65,24 @@ each_present (h ∷ hs) = go (h == absent) refl (each_present hs)
     go : (b : Bool) → (h == absent) ≡ b → AllByRecursion (λ x. x ≡ absent → ⊥) (present hs) → AllByRecursion (λ x. x ≡ absent → ⊥) (cond (not b) (h ∷ present hs) (present hs))
     go true e r = r
     go false e r = (eqb-false h absent e, r)
+
+-- what is said of each operand is said of those that are there
+pub each_kept : (P : ℕ → Type 0) (os : List ℕ) → AllByRecursion P os → AllByRecursion P (present os)
+each_kept P [] a = tt
+each_kept P (h ∷ hs) a = go (h == absent) (each_kept P hs a.1)
+  where
+    go : (b : Bool) → AllByRecursion P (present hs) → AllByRecursion P (cond (not b) (h ∷ present hs) (present hs))
+    go true r = r
+    go false r = (a.0, r)
+
+-- an image that is there is that of an operand that is there
+pub image_from : (images os : List ℕ) (x : ℕ) → Has (images_of images os) x → (x ≡ absent → ⊥) → (o : ℕ) × Has (present os) o × (x ≡ image_of images o)
+image_from images [] x a p = absurd (has_none x a)
+image_from images (o ∷ os) x a p = go (o == absent) refl (λ q. image_from images os x q p) (has_cons x (image_of images o) (images_of images os) a)
+  where
+    go : (b : Bool) → (o == absent) ≡ b → (Has (images_of images os) x → (i : ℕ) × Has (present os) i × (x ≡ image_of images i)) → (image_of images o ≡ x) ⊎ Has (images_of images os) x →
+        (i : ℕ) × Has (cond (not b) (o ∷ present os) (present os)) i × (x ≡ image_of images i)
+    go true e r (inl q) = absurd (p (sym q ∙ image_absent images o e))
+    go true e r (inr q) = r q
+    go false e r (inl q) = (o, has_here o (present os), sym q)
+    go false e r (inr q) = let f = r q in (f.0, has_there f.0 o (present os) f.1, f.2)

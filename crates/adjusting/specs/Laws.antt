@@ -1,13 +1,16 @@
 -- What the rewriting of a body's records keeps.
-use Rattle.std.specs.Prelude.{◌≡◌, ℕ, suc, ◌+◌, ◌<◌, true, false, cond, ◌⊎◌, List, [], ◌∷◌, length, Some, None, Option}
-use Rattle.std.specs.List.{slice_get, flat_map, ContainsAt as Has, AllByRecursion}
+use Rattle.std.specs.Prelude.{◌≡◌, ℕ, suc, ◌+◌, ◌<◌, cond, List, [], ◌∷◌, length, Some, None, Option}
+use Rattle.std.specs.List.{slice_get, flat_map}
 use Rattle.arena.specs.declared.range.Range.{Range}
 use Rattle.arena.specs.Nodes.{Node}
 use Rattle.blocks.specs.Blocks.{OneBlock}
-use Rattle.blocks.specs.Sight.{pre_emit, operands_of, InSight}
+use Rattle.blocks.specs.Sight.{pre_emit, InSight}
 use Rattle.blocks.specs.Weave.{Item, emitted, other, weave}
 use Rattle.operands.specs.Faults.{absent}
 use Rattle.walking.specs.Images.{image_of}
+use Rattle.walking.specs.States.{State}
+use Rattle.walking.specs.Laws.{Old}
+use Rattle.walking.specs.BodyLaws.{Sends, KeepsBody}
 use Rattle.adjusting.specs.declared.emits.Counts.{Counts}
 use Rattle.adjusting.specs.Emits.{sent_to, strikes, numbers, stretches}
 use Rattle.adjusting.specs.Rules.{adjusted, finished}
@@ -41,18 +44,12 @@ struck_count images fs (other n ∷ is) = struck_count images fs is
 
 -- ---- in sight
 
--- an operand of an image's entry: a pre-emit entry, or the image of an operand of the old entry
-abbrev pub Comes : List ℕ → List Node → List ℕ → ℕ → Type 0
-Comes images fs old x = (pre_emit (slice_get fs x) ≡ true) ⊎ ((o : ℕ) × Has old o × (x ≡ image_of images o))
-
--- The images keep what the old entries es say of each other: each handle has an image, which is an entry of fs; a pre-emit entry has a
--- pre-emit image; and an image that is to be emitted has no operands but images of the old entry's operands, and pre-emit entries.
+-- What a walk over the entries es of a body leaves: each has an image, each image is an entry of fs, and the images are as order and sight
+-- ask.
 pub record KeepsEntries (es fs : List Node) (images : List ℕ) : Type 0 where
-  pub every_handle : (h : ℕ) (e : Node) → slice_get es h ≡ Some e → (i : ℕ) × (slice_get images h ≡ Some i)
+  pub every_handle : length images ≡ length es
   pub within : (h i : ℕ) → slice_get images h ≡ Some i → i < length fs
-  pub stays_pre_emit : (h i : ℕ) → slice_get images h ≡ Some i → pre_emit (slice_get es h) ≡ true → pre_emit (slice_get fs i) ≡ true
-  pub operands : (h i : ℕ) → slice_get images h ≡ Some i → pre_emit (slice_get fs i) ≡ false →
-      AllByRecursion (Comes images fs (operands_of (slice_get es h))) (operands_of (slice_get fs i))
+  pub sends : Sends es fs images
 
 -- the records are one block at most 64 deep, and every operand is in sight
 pub record Sighted (es rs : List Node) : Type 0 where
@@ -78,6 +75,12 @@ pub record KeepsRecords (images : List ℕ) (fs old new : List Node) (c : Counts
   pub block : OneBlock new 64
   pub strikes : (es : List Node) → KeepsEntries es fs images → StrikesPreEmit es fs images
   pub sight : (es : List Node) → KeepsEntries es fs images → Sighted es old → Sighted fs new
+
+-- ---- what it rests on
+
+-- a body that is kept by the walk over its entries
+abbrev pub WalkKeepsEntries : Type 0
+WalkKeepsEntries = (o : Old) (f b : State) (es : List Node) → KeepsBody o f es b → KeepsEntries es b.tables.entries b.images
 
 -- ---- longest stretches
 

@@ -9,7 +9,7 @@ ghost use Rattle.walking.specs.Accepted.{AcceptedBody};
 ghost use Rattle.refusals.specs.Codes.{FirstOf};
 ghost use Rattle.adjusting.specs.Ends.{Accepted, Came, Ended, RecordFaults, adjusted_body, held};
 ghost use Rattle.adjusting.specs.Examples.{Examples};
-ghost use Rattle.adjusting.specs.Laws.{KeepsRecords, LongestStretches};
+ghost use Rattle.adjusting.specs.Laws.{KeepsRecords, LongestStretches, WalkKeepsEntries};
 ghost use Rattle.adjusting.specs.Works.{entries_of, records_of, room_for};
 
 use crate::emits::Counts;
@@ -101,7 +101,8 @@ pub fn examples_stand()
     ensures { Examples }
 {}
 
-// The records of a body that `check_body` accepts are not refused.
-pub fn checked_bodies_stand()
-    ensures { (b : Local) → AcceptedBody b → Accepted (nodes b.records b.record_operands) }
+// The records of a body that `check_body` accepts are not refused, and the images that a walk over its entries leaves keep these.
+pub fn bodies_stand()
+    ensures checked { (b : Local) → AcceptedBody b → Accepted (nodes b.records b.record_operands) }
+    ensures walked { WalkKeepsEntries }
 {}

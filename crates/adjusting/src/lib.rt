@@ -9,6 +9,6 @@ mod statements;
 mod tests;
 mod work;
 
-pub use body::{adjust_body, checked_bodies_stand, examples_stand, stretches_stand};
+pub use body::{adjust_body, bodies_stand, examples_stand, stretches_stand};
 pub use emits::Counts;
 pub use work::Inputs;

@@ -23,6 +23,7 @@ sent_to images fs h = emitted_if (image_of images h) (slice_get fs (image_of ima
 abbrev pub kept : List ℕ → List Node → List ℕ → List ℕ
 kept images fs hs = filter_map (sent_to images fs) hs
 
+-- 1 where a handle is struck
 abbrev pub strikes : Option ℕ → ℕ
 strikes None = 1
 strikes (Some image) = 0
@@ -34,14 +35,15 @@ struck images fs (h ∷ hs) = strikes (sent_to images fs h) + struck images fs h
 
 -- ---- longest stretches
 
+-- from a first number up to an end
 abbrev pub range : ℕ → ℕ → Range
 range first end = record { first = first; end = end }
 
--- the numbers from the first up to the end, which is not among them
+-- its numbers, the end not among them
 abbrev pub numbers : Range → List ℕ
 numbers r = range_with_len r.first (r.end - r.first)
 
--- a stretch is open, and these numbers follow
+-- the stretches of an open one and the numbers that follow it
 abbrev pub running : Range → List ℕ → List Range
 running r [] = r ∷ []
 running r (h ∷ hs) = cond (h == r.end) (running (range r.first (h + 1)) hs) (r ∷ running (range h (h + 1)) hs)
@@ -63,5 +65,6 @@ emit_of n r =
       span = n.span;
     }
 
+-- an Emit for each longest stretch of what the old one still emits
 abbrev pub emits_of : List ℕ → List Node → Node → List Node
 emits_of images fs n = map (emit_of n) (stretches (kept images fs (emits n)))

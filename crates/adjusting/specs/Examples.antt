@@ -41,7 +41,7 @@ same_images = range_with_len 0 7
 abbrev pub emitting : List Node
 emitting = opening ∷ emit 3 7 ∷ closing ∷ []
 
--- ---- four entries and more, the one at 1 a Literal; the images of 3, 4 and 5 are 3, 4 and 1
+-- ---- five entries, the one at 1 a Literal; the images of 3, 4 and 5 are 3, 4 and 1
 
 abbrev pub five : List Node
 five = load ∷ literal ∷ load ∷ load ∷ load ∷ []
@@ -74,7 +74,9 @@ pub record Examples : Type 0 where
   -- a Store's operands, with room for one operand
   pub no_operands : adjust_records (room 4 1) moved_images seven (opening ∷ made 6 [] (0 ∷ 1 ∷ []) ∷ closing ∷ []) none_yet
       ≡ full (record { records = opening ∷ []; emitted = 0; struck = 0 }) RecordOperands
-  -- a Loop's break_if is sent to its image once
+  -- a Loop's break_if is sent to its image, and no further
   pub break_if : adjusted moved_images (made 4 [] (1 ∷ [])) ≡ made 4 [] (2 ∷ [])
-  -- an ImageAtomic's compare too; an array index that is absent stays so
+  -- so is an Atomic's compare
+  pub exchange : adjusted moved_images (made 8 [] (0 ∷ 1 ∷ absent ∷ 1 ∷ [])) ≡ made 8 [] (1 ∷ 2 ∷ absent ∷ 2 ∷ [])
+  -- and an ImageAtomic's; an array index that is absent stays so
   pub compare : adjusted moved_images (made 9 [] (0 ∷ 1 ∷ absent ∷ 2 ∷ 3 ∷ [])) ≡ made 9 [] (1 ∷ 2 ∷ absent ∷ 3 ∷ 4 ∷ [])

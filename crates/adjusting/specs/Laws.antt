@@ -84,6 +84,7 @@ WalkKeepsEntries = (o : Old) (f b : State) (es : List Node) → KeepsBody o f es
 
 -- ---- longest stretches
 
+-- each has a number
 abbrev pub NoneEmpty : List Range → Type 0
 NoneEmpty [] = Unit {0}
 NoneEmpty (r ∷ rs) = (r.first < r.end) × NoneEmpty rs
@@ -93,6 +94,7 @@ abbrev pub NotAt : ℕ → List Range → Type 0
 NotAt h [] = Unit {0}
 NotAt h (r ∷ rs) = r.first ≡ h → ⊥
 
+-- none begins where the one before it ends
 abbrev pub NoneMeet : List Range → Type 0
 NoneMeet [] = Unit {0}
 NoneMeet (r ∷ rs) = NotAt r.end rs × NoneMeet rs

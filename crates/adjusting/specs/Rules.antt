@@ -23,12 +23,14 @@ pub data Outcome : Type 0 where
   goes : State → Outcome
   full : State → TableName → Outcome
 
+-- one after the other
 abbrev pub then : Outcome → (State → Outcome) → Outcome
 then (goes s) f = f s
 then (full s table) f = full s table
 
 -- ---- one record
 
+-- one record more
 abbrev pub with_record : Node → State → State
 with_record n s = record { records = s.records ++ n ∷ []; emitted = s.emitted; struck = s.struck }
 
@@ -63,13 +65,14 @@ emits_now images fs n = cond (is_emit n) (length (kept images fs (emits n))) 0
 abbrev pub strikes_now : List ℕ → List Node → Node → ℕ
 strikes_now images fs n = cond (is_emit n) (struck images fs (emits n)) 0
 
--- they are written, and then counted
+-- these are written, and then counted
 abbrev pub adjust_record : Room → List ℕ → List Node → Node → State → Outcome
 adjust_record r images fs n s =
     then (add_all r (finished images fs n) s) (λ t. goes (counting (emits_now images fs n) (strikes_now images fs n) t))
 
 -- ---- all of them
 
+-- the records in order
 abbrev pub adjust_records : Room → List ℕ → List Node → List Node → State → Outcome
 adjust_records r images fs [] s = goes s
 adjust_records r images fs (n ∷ ns) s = then (adjust_record r images fs n s) (adjust_records r images fs ns)

@@ -29,6 +29,7 @@ abbrev pub Took : Node → Option Range → ℕ → Work → Work → Result Ran
 Took n o h a b (Ok r) = (hs : List ℕ) → left n (Some r) hs b ≡ left n o (h ∷ hs) a
 Took n o h a b (Err e) = (hs : List ℕ) → Went {A = Range} (left n o (h ∷ hs) a) (state_of b) (Err e)
 
+-- that, in the same room, with the same tables lent
 pub record Extended (n : Node) (o : Option Range) (h : ℕ) (a b : Work) (r : Result Range Refusal) : Type 0 where
   pub took : Took n o h a b r
   pub next : b.next ≡ a.next

@@ -27,12 +27,15 @@ entries_of i = nodes_of i.entries.now
 abbrev pub room_for : Table Entry → Table ℕ → Room
 room_for records operands = record { records = limit records; operands = min (limit operands) 4294967295 }
 
+-- the room of the tables that a work writes
 abbrev pub room_of : Work → Room
 room_of w = room_for w.records.now w.operands.now
 
+-- the records that it has written
 abbrev pub written_of : Work → List Node
 written_of w = nodes (items w.records.now) (items w.operands.now)
 
+-- these, and what it has counted
 abbrev pub state_of : Work → State
 state_of w = record { records = written_of w; emitted = w.emitted; struck = w.struck }
 

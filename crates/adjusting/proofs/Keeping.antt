@@ -1,7 +1,5 @@
 -- What the rewriting of a body's records keeps, where it goes to its end.
-use Rattle.std.proofs.Common.{◌≡◌, ◌≤◌, List, length, Ok, Err, Result, IfOk, sym, ap, ◌∙◌, subst, arith}
-use Rattle.arena.specs.declared.arena.Arena.{Arena}
-use Rattle.arena.specs.Appends.{entries_of as arena_entries, operands_of, nodes_of}
+use Rattle.std.proofs.Common.{◌≡◌, List, Ok, Err, Result, IfOk, sym, ap, ◌∙◌, subst, arith}
 use Rattle.arena.specs.Nodes.{Node}
 use Rattle.blocks.specs.Blocks.{OneBlock}
 use Rattle.blocks.specs.Weave.{weave}
@@ -12,7 +10,6 @@ use Rattle.adjusting.specs.Rules.{Room, none_yet}
 use Rattle.adjusting.specs.Works.{entries_of, records_of}
 use Rattle.adjusting.specs.Ends.{Came, adjusted_body}
 use Rattle.adjusting.specs.Laws.{KeepsRecords, Sighted, WalkKeepsEntries, emitted_count}
-use Rattle.adjusting.proofs.Adding.{length_nodes}
 use Rattle.adjusting.proofs.Order.{order, count_all, count_new, count_struck}
 use Rattle.adjusting.proofs.Sending.{arena_small}
 use Rattle.adjusting.proofs.Sights.{sight, strikes_pre_emit}

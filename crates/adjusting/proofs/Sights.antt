@@ -9,11 +9,11 @@ use Rattle.operands.specs.Faults.{absent}
 use Rattle.arena.specs.declared.range.Range.{Range}
 use Rattle.arena.specs.Nodes.{Node}
 use Rattle.blocks.specs.Blocks.{Block, Stmts, Stmt, Blocks, block, end, also, stmt, none, more}
-use Rattle.blocks.specs.Sight.{present, uses, results, is_pre_emit, pre_emit, Sees, operands_of, EmitSees, brings, brings_all, brought, is_loop, InSight, InSightStmts, InSightStmt, BlocksSee, LoopSees}
+use Rattle.blocks.specs.Sight.{present, uses, results, pre_emit, Sees, operands_of, EmitSees, brings, brings_all, brought, is_loop, InSight, InSightStmts, InSightStmt, BlocksSee, LoopSees}
 use Rattle.blocks.specs.Weave.{is_emit, emits}
 use Rattle.walking.specs.Images.{image_of, images_of}
 use Rattle.walking.specs.BodyLaws.{Brought}
-use Rattle.adjusting.specs.Emits.{emitted_if, sent_to, kept, numbers, stretches, emit_of, emits_of}
+use Rattle.adjusting.specs.Emits.{sent_to, kept, numbers, stretches, emit_of, emits_of}
 use Rattle.adjusting.specs.Rules.{adjusted, finished}
 use Rattle.adjusting.specs.Laws.{KeepsEntries, Sighted, StrikesPreEmit}
 use Rattle.adjusting.proofs.Members.{has_none, has_here, has_there, has_cons, has_left, has_right, has_cases, each_at, each_both}

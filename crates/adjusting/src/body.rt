@@ -44,7 +44,7 @@ fn check(records: &[Record]) -> Result<(), Refusal>
     }
 }
 
-// Writes records that are checked anew, into empty tables.
+// Writes anew records that are checked, into empty tables.
 fn adjust_checked(
     inputs: Inputs<'_>,
     records: &mut Table<Record>,

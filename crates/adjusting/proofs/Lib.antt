@@ -1,0 +1,17 @@
+mod Adding
+mod Checking
+mod Cuts
+mod Ending
+mod Keeping
+mod Leaving
+mod Members
+mod Nesting
+mod Order
+mod Sending
+mod Sights
+mod Stretches
+mod Tilings
+mod Trees
+mod Turning
+mod Uses
+mod Written

@@ -48,7 +48,12 @@ fn show_folds(rt: &HostRuntime, path: &str, pile: &str, trees: &[&str]) -> anyho
 }
 
 // What settling a listing by a settings file gives.
-fn show_settling(rt: &HostRuntime, listing: &str, pile: &str, settings: &str) -> anyhow::Result<()> {
+fn show_settling(
+    rt: &HostRuntime,
+    listing: &str,
+    pile: &str,
+    settings: &str,
+) -> anyhow::Result<()> {
     let heap = rt.alloc();
     let pile = Pile::named(pile).context("no such pile")?;
     let text = fs::read_to_string(rt, listing).context(listing)?;

@@ -1,8 +1,8 @@
 use crate::*;
 use evaluator::NewConstant;
 use ir::{Size, Sizes};
-use places::{Place, TableName};
 use pipeline_constants::Written;
+use places::{Place, TableName};
 use refusals::Refusal;
 use settings::Settings;
 use shader_text::{Shader, read_shader};

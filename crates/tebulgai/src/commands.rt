@@ -5,8 +5,8 @@ use crate::help::HELP;
 use fold_report::{Pile, report_folds};
 use inspection::{report_listing, rewrite_listing};
 use report::{ReportError, TextError, pack, report_literals, unpack};
-use settle_report::report_settling;
 use settings::read_decimal;
+use settle_report::report_settling;
 use std::alloc::Global;
 use std::env;
 

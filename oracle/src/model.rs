@@ -1,4 +1,4 @@
-//! The rules over plain tables, written from docs/RULES.md alone, to be held against naga.
+//! The rules over plain tables, written from the rules alone, to be held against naga.
 //! Of the refusals 1 to 5 and 17 only one is here, 4 for what an entry names: apart from that the cases are well formed, and the tables
 //! have room.
 use crate::tables::*;

@@ -9,7 +9,8 @@ use Rattle.refusals.specs.declared.Refusal.{Refusal}
 use Rattle.ir.specs.declared.tables.Constant.{Constant}
 use Rattle.ir.specs.declared.tables.Override.{Override}
 use Rattle.ir.specs.declared.tables.Sizes.{Sizes}
-use Rattle.ir.specs.Tables.{Global, sizes_of}
+use Rattle.ir.specs.declared.tables.Source.{Source}
+use Rattle.ir.specs.Tables.{Global, sizes_of, global}
 use Rattle.evaluator.specs.declared.tables.NewConstant.{NewConstant}
 use Rattle.evaluator.specs.Verdicts.{Meaning}
 use Rattle.settings.specs.Layout.{Given}
@@ -29,6 +30,7 @@ use Rattle.pipeline_constants.specs.Settlings.{Limits, Answer, settles, settled_
 use Rattle.pipeline_constants.specs.Views.{content_of, limits_of, room_of, tables_of, counts, written_in}
 use Rattle.pipeline_constants.specs.Beginnings.{Copied}
 use Rattle.pipeline_constants.specs.Endings.{Came, Ending}
+use Rattle.pipeline_constants.specs.Standing.{Stands}
 use Rattle.pipeline_constants.specs.Laws.{Stays, RunsBy, Runs, SettledAs, StoppedAs}
 use Rattle.pipeline_constants.specs.Carried.{Carries}
 use Rattle.pipeline_constants.specs.Rows.{RowOf}
@@ -53,6 +55,18 @@ runs_tile (p ∷ ps) a b l t = t
 
 abbrev unmapped : Constant → NewConstant
 unmapped c = record { init = c.init; mapped = false }
+
+-- a module with the tables of an accepted one, with the values of its overrides, and with finished tables that keep the trees
+stands_by : (a b : Module) (os : List Valued) → b.source ≡ a.source → items b.values ≡ os → Accepted (tables_of a) → ValuesOf (tables_of a) os →
+    KeepsTrees (old_of_global (tables_of a) os) (content_of b.finished).walk → Stands b
+stands_by a b os source held accepted values trees =
+    record {
+      sizes = a.sizes;
+      accepted = subst (λ (m : Source). Accepted (global m a.sizes)) (sym source) accepted;
+      values = subst (λ (m : Source). ValuesOf (global m a.sizes) (items b.values)) (sym source) (subst (ValuesOf (tables_of a)) (sym held) values);
+      trees = subst (λ (m : Source). KeepsTrees (old_of_global (global m a.sizes) (items b.values)) (content_of b.finished).walk) (sym source)
+          (subst (λ (vs : List Valued). KeepsTrees (old_of_global (tables_of a) vs) (content_of b.finished).walk) (sym held) trees);
+    }
 
 module _ (f : Meaning) (a : Module) (os : List Valued) (e : Ended) (some : 0 < length (vec_items a.source.overrides)) (ending : Ending f (tables_of a) os a.finished e) where
   came : (r : Result Sizes Refusal) → e.sized ≡ r → Came (settling f (room_of a) (tables_of a) os) (content_of e.finished) r
@@ -81,16 +95,28 @@ module _ (f : Meaning) (a : Module) (os : List Valued) (e : Ended) (some : 0 < l
         runs_tile (vec_items a.source.overrides) a b some
         (subst (λ (x : Finished). Tiled (items x.entries) (length (items x.operands))) (sym finished) ending.tiled)
 
-    pub settled_walked : (g : Given) → Accepted (tables_of a) → ValuedFor g (vec_items a.source.names) (vec_items a.source.overrides) os → e.sized ≡ Ok b.sizes →
-        SettledAs f a os (record { «module» = b })
-    settled_walked g accepted valued ok =
+    -- what is finished keeps the trees
+    walked_keeps : (g : Given) → Accepted (tables_of a) → ValuedFor g (vec_items a.source.names) (vec_items a.source.overrides) os → e.sized ≡ Ok b.sizes →
+        KeepsTrees (old_of_global (tables_of a) os) (content_of b.finished).walk
+    walked_keeps g accepted valued ok =
+        subst (λ (x : Finished). KeepsTrees (old_of_global (tables_of a) os) (content_of x).walk) (sym finished)
+        (ending.keeps (accepted_is_checked (tables_of a) os accepted (valued_is_values g (tables_of a) os valued)) b.sizes ok)
+
+    pub walked_stands : (g : Given) → Accepted (tables_of a) → ValuedFor g (vec_items a.source.names) (vec_items a.source.overrides) os → e.sized ≡ Ok b.sizes →
+        items b.values ≡ os → Stands b
+    walked_stands g accepted valued ok held =
+        stands_by a b os source held accepted (valued_is_values g (tables_of a) os valued) (walked_keeps g accepted valued ok)
+
+    pub settled_walked : (g : Given) (st : ∥ Stands b ∥₁) → Accepted (tables_of a) → ValuedFor g (vec_items a.source.names) (vec_items a.source.overrides) os → e.sized ≡ Ok b.sizes →
+        items b.values ≡ os → SettledAs f a os (record { «module» = b; stands = st })
+    settled_walked g st accepted valued ok held =
         record {
           rules = subst (λ (x : Finished). Came (settling f (room_of a) (tables_of a) os) (content_of x) (Ok b.sizes)) (sym finished) (came (Ok b.sizes) ok);
-          trees = subst (λ (x : Finished). KeepsTrees (old_of_global (tables_of a) os) (content_of x).walk) (sym finished)
-              (ending.keeps (accepted_is_checked (tables_of a) os accepted (valued_is_values g (tables_of a) os valued)) b.sizes ok);
+          trees = walked_keeps g accepted valued ok;
           carries = subst (λ (x : Finished). Carries (old_of_global (tables_of a) os) (tables_of a) (content_of x) (sizes_of b.sizes)) (sym finished)
               (carried accepted (valued_is_values g (tables_of a) os valued) b.sizes ok);
           runs = runs;
+          values = held;
           stays = stays;
         }
 
@@ -125,18 +151,32 @@ module _ (a : Module) (bare : vec_items a.source.overrides ≡ []) where
   content_copied : (x : Finished) → Copied a.source a.finished x → content_of x ≡ copies (tables_of a)
   content_copied x c = rw (c.entries, c.operands, c.constants, c.overrides, c.variables, c.images, c.settled, c.kinds) refl
 
-  pub settled_copied : (f : Meaning) (b : Module) → b.source ≡ a.source → b.sizes ≡ a.sizes → Copied a.source a.finished b.finished →
-      Accepted (tables_of a) → SettledAs f a [] (record { «module» = b })
-  settled_copied f b source sizes c accepted =
+  no_values : ValuesOf (tables_of a) []
+  no_values =
+      valued_is_values (record { keys = []; values = [] }) (tables_of a) []
+      (bare_given (record { keys = []; values = [] }) (vec_items a.source.names) (vec_items a.source.overrides) bare)
+
+  copied_keeps : (x : Finished) → Copied a.source a.finished x → Accepted (tables_of a) → KeepsTrees (old_of_global (tables_of a) []) (content_of x).walk
+  copied_keeps x c accepted =
+      subst (λ (y : Content). KeepsTrees (old_of_global (tables_of a) []) y.walk) (sym (content_copied x c))
+      (copies_keep (tables_of a) (accepted_is_checked (tables_of a) [] accepted no_values))
+
+  pub copied_stands : (b : Module) → b.source ≡ a.source → Copied a.source a.finished b.finished → Accepted (tables_of a) → items b.values ≡ [] → Stands b
+  copied_stands b source c accepted held = stands_by a b [] source held accepted no_values (copied_keeps b.finished c accepted)
+
+  pub settled_copied : (f : Meaning) (b : Module) (st : ∥ Stands b ∥₁) → b.source ≡ a.source → b.sizes ≡ a.sizes → Copied a.source a.finished b.finished →
+      Accepted (tables_of a) → items b.values ≡ [] → SettledAs f a [] (record { «module» = b; stands = st })
+  settled_copied f b st source sizes c accepted held =
       let same = content_copied b.finished c in
-      let checked = accepted_is_checked (tables_of a) [] accepted (valued_is_values (record { keys = []; values = [] }) (tables_of a) [] (bare_given (record { keys = []; values = [] }) (vec_items a.source.names) (vec_items a.source.overrides) bare)) in
+      let checked = accepted_is_checked (tables_of a) [] accepted no_values in
       let keeps = copies_keep (tables_of a) checked in
       record {
         rules = subst (λ (x : Answer). Came x (content_of b.finished) (Ok b.sizes)) (sym (by_copies f)) (same, ap sizes_of sizes);
-        trees = subst (λ (x : Content). KeepsTrees (old_of_global (tables_of a) []) x.walk) (sym same) keeps;
+        trees = copied_keeps b.finished c accepted;
         carries = subst (λ (x : Content). Carries (old_of_global (tables_of a) []) (tables_of a) x (sizes_of b.sizes)) (sym same)
             (subst (Carries (old_of_global (tables_of a) []) (tables_of a) (copies (tables_of a))) (sym (ap sizes_of sizes)) (copies_carry (tables_of a) accepted bare keeps));
         runs = subst (λ (ps : List Override). RunsBy ps a b) (sym bare) (c.entries, c.operands);
+        values = held;
         stays = record {
           source = source;
           room = c.room;

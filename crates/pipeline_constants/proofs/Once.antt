@@ -16,8 +16,8 @@ use Rattle.overrides.specs.Settling.{FirstFault}
 use Rattle.overrides.specs.Values.{ValuedFor}
 use Rattle.overrides.proofs.Once.{valued_once}
 use Rattle.pipeline_constants.specs.declared.module.Module.{Module}
-use Rattle.pipeline_constants.specs.declared.module.Settled.{Settled}
-use Rattle.pipeline_constants.specs.declared.module.Refused.{Refused}
+use Rattle.pipeline_constants.specs.declared.settled.Settled.{Settled}
+use Rattle.pipeline_constants.specs.declared.settled.Refused.{Refused}
 use Rattle.pipeline_constants.specs.Contents.{Content}
 use Rattle.pipeline_constants.specs.Settlings.{Answer, settles, refuses, settling}
 use Rattle.pipeline_constants.specs.Endings.{Came}

@@ -14,8 +14,8 @@ use Rattle.walking.specs.Accepted.{old_of_global}
 use Rattle.overrides.specs.Settling.{SettlingFaults, FirstFault}
 use Rattle.overrides.specs.Values.{ValuedFor}
 use Rattle.pipeline_constants.specs.declared.module.Module.{Module}
-use Rattle.pipeline_constants.specs.declared.module.Settled.{Settled}
-use Rattle.pipeline_constants.specs.declared.module.Refused.{Refused}
+use Rattle.pipeline_constants.specs.declared.settled.Settled.{Settled}
+use Rattle.pipeline_constants.specs.declared.settled.Refused.{Refused}
 use Rattle.pipeline_constants.specs.Contents.{no_content}
 use Rattle.pipeline_constants.specs.Settlings.{settling, full_at_first}
 use Rattle.pipeline_constants.specs.Endings.{Came}
@@ -56,6 +56,7 @@ pub record SettledAs (f : Meaning) (a : Module) (os : List Valued) (s : Settled)
   pub trees : KeepsTrees (old_of_global (tables_of a) os) (content_of s.module.finished).walk
   pub carries : Carries (old_of_global (tables_of a) os) (tables_of a) (content_of s.module.finished) (sizes_of s.module.sizes)
   pub runs : Runs a s.module
+  pub values : items s.module.values ≡ os
   pub stays : Stays a s.module
 
 -- nothing at all was written

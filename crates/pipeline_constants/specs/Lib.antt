@@ -13,3 +13,4 @@ pub mod Carried
 pub mod Rows
 pub mod Laws
 pub mod Once
+pub mod Standing

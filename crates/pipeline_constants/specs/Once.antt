@@ -3,8 +3,8 @@ use Rattle.std.specs.Prelude.{◌≡◌, ℕ, List, Ok, Err, Result}
 use Rattle.refusals.specs.Codes.{code_of}
 use Rattle.evaluator.specs.Verdicts.{Meaning}
 use Rattle.pipeline_constants.specs.declared.module.Module.{Module}
-use Rattle.pipeline_constants.specs.declared.module.Settled.{Settled}
-use Rattle.pipeline_constants.specs.declared.module.Refused.{Refused}
+use Rattle.pipeline_constants.specs.declared.settled.Settled.{Settled}
+use Rattle.pipeline_constants.specs.declared.settled.Refused.{Refused}
 use Rattle.pipeline_constants.specs.Laws.{Settles}
 use Rattle.pipeline_constants.specs.Views.{content_of, room_of, tables_of}
 

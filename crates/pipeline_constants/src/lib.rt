@@ -11,13 +11,15 @@ mod full;
 mod images;
 mod module;
 mod room;
+mod settled;
 mod settling;
 mod sizes;
 mod slots;
 mod walk;
 
 pub use finished::{Finished, Written};
-pub use module::{Module, Refused, Settled};
+pub use module::Module;
+pub use settled::{Refused, Settled};
 pub use room::Room;
 
 // What can be relied on whatever is settled: a file and a module have one answer.

@@ -1,14 +1,13 @@
-// A module, unsettled or settled.
+// A module that is not settled.
 ghost use Rattle.std.specs.Prelude.{◌≡◌, ◌≤◌, length, IfOk, vec_items};
 ghost use Rattle.arena.specs.Items.{limit as bound};
 
-use crate::finished::{Finished, Written};
+use crate::finished::Finished;
 use crate::room::Room;
 use crate::slots::Slots;
 use arena::{Handle, Table};
 use evaluator::ExpressionKind;
 use ir::{Sizes, Source};
-use refusals::Refusal;
 use std::alloc::{AllocError, Global};
 use walking::Valued;
 
@@ -27,20 +26,6 @@ pub struct Module {
     ghost tables: { (bound finished.entries ≤ 65536) × (bound finished.operands ≤ 262144) },
     ghost recordable: { length (vec_items kinds) ≡ bound finished.kinds },
     ghost handles: { (bound finished.constants ≤ 65536) × (length (vec_items finished.images.values) ≤ 65536) },
-}
-
-// A settled module. Only `settle` makes one.
-#[derive(Drop)]
-pub struct Settled {
-    pub(crate) module: Module,
-}
-
-// A module that was not settled, why, and how much of its finished tables was written by then.
-#[derive(Drop)]
-pub struct Refused {
-    pub module: Module,
-    pub refusal: Refusal,
-    pub written: Written,
 }
 
 impl Finished {
@@ -103,27 +88,5 @@ impl Module {
         ensures { result.now ≡ self.now.finished }
     {
         &self.finished
-    }
-}
-
-impl Settled {
-    // The tables as they came.
-    pub fn source(&self) -> &Source
-        ensures { result.now ≡ self.now.module.source }
-    {
-        &self.module.source
-    }
-
-    // The sizes of this settling.
-    pub fn sizes(&self) -> &Sizes
-        ensures { result.now ≡ self.now.module.sizes }
-    {
-        &self.module.sizes
-    }
-
-    pub fn finished(&self) -> &Finished
-        ensures { result.now ≡ self.now.module.finished }
-    {
-        &self.module.finished
     }
 }

@@ -3,7 +3,8 @@ ghost use Rattle.std.specs.Prelude.{◌≡◌, ◌≤◌, List, length, vec_item
 ghost use Rattle.arena.specs.Items.{limit as bound};
 
 use crate::finished::{Finished, Written};
-use crate::module::{Module, Refused, Settled};
+use crate::module::Module;
+use crate::settled::{Refused, Settled};
 use arena::{Handle, Table};
 use evaluator::{ExpressionKind, Folder};
 use ir::{Sizes, Source};
@@ -97,9 +98,10 @@ impl Module {
             mut finished,
             scratch,
             kinds,
-            values,
+            mut values,
         } = self;
         finished.copy(&source);
+        values.clear();
         let module = Module {
             source,
             sizes,

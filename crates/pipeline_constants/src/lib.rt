@@ -19,8 +19,8 @@ mod walk;
 
 pub use finished::{Finished, Written};
 pub use module::Module;
-pub use settled::{Refused, Settled};
 pub use room::Room;
+pub use settled::{Refused, Settled};
 
 // What can be relied on whatever is settled: a file and a module have one answer.
 pub fn settling_stands()

@@ -1,8 +1,8 @@
 -- A settings file, cut into its parts and put together again.
-use Rattle.std.proofs.Common.{◌≡◌, ℕ, zero, suc, ◌+◌, ◌*◌, ◌/◌, ◌%◌, ◌^◌, ◌<◌, ◌≤◌, List, [], ◌∷◌, ◌++◌, map, length, get_or, take, drop, sum, sym, refl, ap, ◌∙◌, subst, pow-suc, mul-suc, arith}
+use Rattle.std.proofs.Common.{◌≡◌, ℕ, zero, suc, ◌+◌, ◌*◌, ◌/◌, ◌%◌, ◌^◌, ◌<◌, ◌≤◌, List, [], ◌∷◌, ◌++◌, map, length, get_or, take, drop, Some, sum, sym, refl, ap, ◌∙◌, subst, pow-suc, mul-suc, arith}
 use Rattle.std.specs.Simd.{first_chunks}
-use Rattle.std.specs.List.{flat_map, AllByRecursion, IsSplitAt}
-use Rattle.std.proofs.lemmas.List.{take_at, drop_at, take-append-drop, length-take-le, length-drop, length-append, length-map}
+use Rattle.std.specs.List.{slice_get, flat_map, AllByRecursion, IsSplitAt}
+use Rattle.std.proofs.lemmas.List.{take_at, drop_at, take-append-drop, length-take-le, length-drop, length-append, length-map, drop-drop}
 use Rattle.std.proofs.lemmas.List.Sums.{sum_by-cons}
 use Rattle.std.proofs.ByRecursion.{All-take, All-drop}
 use Rattle.settings.specs.Layout.{bytes_of, number_of, Given, Valid, encode, pieces, Encodes}
@@ -117,7 +117,7 @@ length_first_chunks : (n : ℕ) (bs : List ℕ) → length (first_chunks 8 n bs)
 length_first_chunks zero bs = refl
 length_first_chunks (suc n) bs = ap suc (length_first_chunks n (drop 8 bs))
 
-length_eights_by : (n : ℕ) (bs : List ℕ) → length (eights_by n bs) ≡ n
+pub length_eights_by : (n : ℕ) (bs : List ℕ) → length (eights_by n bs) ≡ n
 length_eights_by n bs = length-map (first_chunks 8 n bs) number_of ∙ length_first_chunks n bs
 
 -- ---- the file
@@ -149,7 +149,7 @@ module _ (low high : ℕ) (rest : List ℕ) (g : Given) (ok : Valid g) (e : enco
       let l : length (map length g.keys) ≡ low + 256 * high = length-map g.keys length ∙ sym the_count in
       ap (drop (low + 256 * high)) the_rest ∙ drop_at (map length g.keys) _ (low + 256 * high) l
 
-  fits : length (drop (low + 256 * high) rest) ≡ sum (take (low + 256 * high) rest) + 8 * (low + 256 * high)
+  pub fits : length (drop (low + 256 * high) rest) ≡ sum (take (low + 256 * high) rest) + 8 * (low + 256 * high)
   fits =
       let l = ap length the_others ∙ length-append (flat_map (λ k. k) g.keys) (flat_map (bytes_of 8) g.values) in
       let m = length_keys g.keys in
@@ -234,3 +234,13 @@ encodes_valid g ok =
     λ h fine e. the_same (n % 256) ((n / 256) % 256) (after g) h fine e (map length g.keys) (flat_map (λ k. k) g.keys) (flat_map (bytes_of 8) g.values)
     (the_lengths (n % 256) ((n / 256) % 256) (after g) g ok refl) (the_others (n % 256) ((n / 256) % 256) (after g) g ok refl) (length_keys g.keys) in
     record { valid = ok; is = refl; only = λ h fine e. to h fine e ∙ sym (to g ok refl) }
+
+-- ---- one key
+
+pub piece_at : (ns bs : List ℕ) (i : ℕ) → i < length ns → slice_get (pieces ns bs) i ≡ Some (take (get_or ns i 0) (drop (sum (take i ns)) bs))
+piece_at [] bs i h = absurd (omega arith)
+piece_at (n ∷ ns) bs zero h = refl
+piece_at (n ∷ ns) bs (suc i) h =
+    let s : sum (n ∷ take i ns) ≡ n + sum (take i ns) = sum_by-cons (λ x. x) n (take i ns) in
+    let d = drop-drop (sum (take i ns)) n bs in
+    piece_at ns (drop n bs) i (omega arith) ∙ ap (λ r. Some (take (get_or ns i 0) r)) (d ∙ ap (λ m. drop m bs) (omega arith))

@@ -1,5 +1,7 @@
 pub mod Places
 pub mod Format
+pub mod Walk
 pub mod Overrides
 pub mod Emit
 pub mod Digits
+pub mod Numeral

@@ -1,5 +1,6 @@
 -- Which keys are numbers, and which key an override takes.
-use Rattle.std.specs.Prelude.{◌≡◌, ℕ, ◌≤◌, List, Some, None, decimal, Option, ◌≢◌}
+use Rattle.std.specs.Prelude.{◌≡◌, ℕ, ◌+◌, ◌-◌, ◌*◌, ◌<◌, ◌≤◌, true, List, [], ◌∷◌, length, Some, None, decimal, Option, ◌≢◌, slice_index}
+use Rattle.std.specs.Str.{all_ascii_digits}
 use Rattle.std.specs.Option.{option_map}
 use Rattle.settings.specs.First.{Holds}
 use Rattle.settings.specs.declared.naming.Key.{Key}
@@ -28,3 +29,17 @@ Takes w bs = TakenBy w.id (name_of w) bs
 -- some override takes the key
 abbrev pub Taken : List Identifier → List ℕ → Type 0
 Taken ws bs = (j : ℕ) × Holds (λ w. Takes w bs) ws j
+
+-- the number that digits write after those of n
+abbrev pub read_on : ℕ → List ℕ → ℕ
+read_on n [] = n
+read_on n (c ∷ cs) = read_on (10 * n + (c - 48)) cs
+
+-- bytes, with no zero in front of others
+abbrev pub Plain : List ℕ → Type 0
+Plain bs = (0 < length bs) × (slice_index bs 0 ≡ 48 → length bs ≡ 1)
+
+-- the number of digits, where they are digits and it is no more than 65,535
+abbrev pub Valued : List ℕ → Option ℕ → Type 0
+Valued bs (Some n) = (n ≤ 65535) × (all_ascii_digits bs ≡ true) × (read_on 0 bs ≡ n)
+Valued bs None = all_ascii_digits bs ≡ true → read_on 0 bs ≤ 65535 → ⊥

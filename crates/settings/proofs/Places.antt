@@ -14,7 +14,7 @@ use Rattle.settings.specs.Keys.{Taken}
 use Rattle.settings.specs.Reading.{KeyAt}
 use Rattle.settings.specs.declared.naming.Identifier.{Identifier}
 
-nth_take : {A : Type 0} (xs : List A) (n i : ℕ) → i < n → slice_get (take n xs) i ≡ slice_get xs i
+pub nth_take : {A : Type 0} (xs : List A) (n i : ℕ) → i < n → slice_get (take n xs) i ≡ slice_get xs i
 nth_take [] zero i h = absurd (omega arith)
 nth_take [] (suc n) i h = refl
 nth_take (x ∷ xs) zero i h = absurd (omega arith)

@@ -3,12 +3,12 @@
 // A key that is plain text stands as it is. Any other stands in quotes, where \xNN, with two
 // hexadecimal digits, is a byte that is not printable ASCII, or is one of = " and \.
 ghost use Rattle.std.specs.Prelude.{◌≡◌, ℕ, ◌<◌, List, [], ◌∷◌, ◌++◌, length, IfOk, IfSome, string_bytes, Decides, MatchOption, MatchResult, OnOk};
+ghost use Rattle.std.specs.Char.{digit_char};
 ghost use Rattle.listing.specs.Quotes.{plain_byte, shown_byte, escape, byte_text, inner, Bytes, PlainEnds, Plain, Shown};
 ghost use Rattle.listing.specs.declared.faults.Fault.TheVariants.{OutOfMemory as NoMemory};
 
 use crate::faults::Fault;
 use std::alloc::{AllocError, Global};
-use std::fmt::Write;
 
 // A byte that may stand anywhere in a key that is not quoted.
 fn is_plain_byte(b: u8) -> bool
@@ -38,13 +38,24 @@ fn is_plain(key: &[u8]) -> bool
     has_plain_ends(key) && key.iter().all(|b| is_plain_byte(*b))
 }
 
+// A number below 16 as the digit that an escape has for it.
+fn hex_char(digit: u8) -> char
+    requires { digit < 16 }
+    ensures { result ≡ digit_char digit }
+{
+    char::from_digit(u32::from(digit), 16).unwrap_or('0')
+}
+
 fn push_byte(out: &mut String, b: u8) -> Result<(), AllocError>
     ensures { OnOk result (string_bytes out.new ≡ string_bytes out.old ++ byte_text b) }
 {
     if is_shown(b) {
         out.push(char::from(b))
     } else {
-        write!(out, "\\x{b:02x}")
+        // No `write!`: it takes four times as long.
+        out.push_str("\\x")?;
+        out.push(hex_char(b / 16))?;
+        out.push(hex_char(b % 16))
     }
 }
 

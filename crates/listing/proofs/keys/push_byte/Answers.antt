@@ -1,6 +1,0 @@
-use Rattle.std.proofs.Common.{rules}
-use Rattle.std.proofs.lemmas.Fmt.{hex_byte}
-use Rattle.listing.proofs.keys.push_byte.Goals as goal
-
-pub returns-else-is_shown : goal.returns-else-is_shown
-returns-else-is_shown c = search (rules, hex_byte)

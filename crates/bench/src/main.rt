@@ -49,9 +49,13 @@ fn run(rt: &HostRuntime) -> anyhow::Result<()> {
     let all = settings_of(heap, keys.as_slice())?;
     let overrides = identifiers_of(heap, keys.as_slice())?;
     let start = Instant::now(rt)?;
-    let file = settings::write(heap, all.as_slice()).context("the settings were not written")?;
+    let file = settings::write(heap, all.as_slice())
+        .ok()
+        .context("the settings were not written")?;
     let written = start.elapsed(rt)?;
-    let settings = Settings::read(file.as_slice()).context("the file was not read")?;
+    let settings = Settings::read(file.as_slice())
+        .ok()
+        .context("the file was not read")?;
     let read = start.elapsed(rt)?;
     let n = found(&settings, overrides.as_slice());
     let matched = start.elapsed(rt)?;

@@ -33,6 +33,13 @@ pub enum ReportError {
     },
 }
 
+// A report is written to a String, which fails only for want of memory.
+impl From<fmt::Error> for TextError {
+    fn from(_e: fmt::Error) -> TextError {
+        TextError::OutOfMemory(AllocError)
+    }
+}
+
 // By hand, since the clause `Told` names this variant.
 impl From<SettingsError> for ReportError {
     ghost from_gives = { λ e r. r ≡ Unread e };

@@ -1,5 +1,5 @@
 -- The numbers of the refusals, and the values that come with them.
-use Rattle.std.specs.Prelude.{◌≡◌, ℕ, ◌<◌, ◌⊎◌, List, [], ◌∷◌, codes, Ok, Err, Result}
+use Rattle.std.specs.Prelude.{◌≡◌, ℕ, ◌<◌, ◌⊎◌, List, [], ◌∷◌, cond, codes, Ok, Err, Result, ◌==◌}
 use Rattle.places.specs.declared.Place.{Place}
 use Rattle.places.specs.First.{number_of, At}
 use Rattle.refusals.specs.declared.Axis.{Axis}
@@ -22,6 +22,13 @@ axis_number Z = 2
 abbrev pub output_number : MeshOutput → ℕ
 output_number Vertices = 0
 output_number Primitives = 1
+
+-- and that of a byte: of one past the last number, the last
+abbrev pub axis_of : ℕ → Axis
+axis_of n = cond (n == 0) X (cond (n == 1) Y Z)
+
+abbrev pub output_of : ℕ → MeshOutput
+output_of n = cond (n == 0) Vertices Primitives
 
 -- and how they are called
 abbrev pub axis_word : Axis → List ℕ

@@ -6,7 +6,7 @@ mod tests;
 mod words;
 
 ghost use Rattle.std.specs.Prelude.{◌≡◌};
-ghost use Rattle.refusals.specs.Codes.{code_of};
+ghost use Rattle.refusals.specs.Codes.{axis_of, output_of, code_of};
 
 use arena::Handle;
 use places::{Place, TableName};
@@ -21,11 +21,36 @@ pub enum Axis {
     Z,
 }
 
+// Each byte has one: any other than 0 and 1 that of 2.
+impl From<u8> for Axis {
+    ghost from_gives = { λ byte r. r ≡ axis_of byte };
+
+    fn from(byte: u8) -> Axis {
+        match byte {
+            0 => Axis::X,
+            1 => Axis::Y,
+            _ => Axis::Z,
+        }
+    }
+}
+
 // What a mesh shader puts out at most so many of.
 #[derive(Clone, Copy, PartialEq, Eq, Debug)]
 pub enum MeshOutput {
     Vertices,
     Primitives,
+}
+
+// Each byte has one: any other than 0 that of 1.
+impl From<u8> for MeshOutput {
+    ghost from_gives = { λ byte r. r ≡ output_of byte };
+
+    fn from(byte: u8) -> MeshOutput {
+        match byte {
+            0 => MeshOutput::Vertices,
+            _ => MeshOutput::Primitives,
+        }
+    }
 }
 
 // The reasons in the order of their numbers, from 1: one list, with those of settings files and of conversions in it, since which

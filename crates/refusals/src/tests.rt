@@ -70,3 +70,34 @@ fn sizes_in_words(rt: HostRuntime) {
             == "the largest number of mesh primitives is no u32, nor an i32 from zero"
     );
 }
+
+// A refusal of a workgroup size, and one of a mesh output, whose value is a byte.
+fn workgroup(byte: u8) -> InlineText<160> {
+    words(Refusal::NegativeWorkgroupSize {
+        axis: Axis::from(byte),
+    })
+}
+
+fn mesh(byte: u8) -> InlineText<160> {
+    words(Refusal::NegativeMeshOutputMax {
+        which: MeshOutput::from(byte),
+    })
+}
+
+#[test]
+fn bytes_in_words(rt: HostRuntime) {
+    assert!(rt; workgroup(0).as_str() == "the workgroup size x is no u32 or i32 above zero");
+    assert!(rt; workgroup(1).as_str() == "the workgroup size y is no u32 or i32 above zero");
+    for byte in [2, 3, 255] {
+        assert!(rt; workgroup(byte).as_str() == "the workgroup size z is no u32 or i32 above zero");
+    }
+    assert!(rt;
+        mesh(0).as_str() == "the largest number of mesh vertices is no u32, nor an i32 from zero"
+    );
+    for byte in [1, 2, 3, 255] {
+        assert!(rt;
+            mesh(byte).as_str()
+                == "the largest number of mesh primitives is no u32, nor an i32 from zero"
+        );
+    }
+}

@@ -94,7 +94,7 @@ impl TryFrom<u8> for Expression {
 
 impl Expression {
     // The operands that it has.
-    pub fn slots(self) -> Slots
+    pub fn slots(self) -> Slots<'static>
         ensures { slice_get expressions (expression_number self) ≡ Some (row_of result) }
     {
         match self {

@@ -6,6 +6,8 @@
 
 mod expressions;
 mod statements;
+#[cfg(test)]
+mod tests;
 
 ghost use Rattle.std.specs.Prelude.{◌≡◌};
 ghost use Rattle.std.specs.List.{slice_get};
@@ -27,9 +29,9 @@ pub enum Slot {
 
 // The operands of a kind: any number of needed ones if `more`, and then one for each slot.
 #[derive(Clone, Copy)]
-pub struct Slots {
+pub struct Slots<'s> {
     pub more: bool,
-    pub slots: &'static [Slot],
+    pub slots: &'s [Slot],
 }
 
 // How many blocks stand after a record: so many, or as many as word 0 says.
@@ -41,7 +43,7 @@ pub enum After {
 
 #[derive(Clone, Copy)]
 pub struct RecordKind {
-    pub slots: Slots,
+    pub slots: Slots<'static>,
     pub after: After,
 }
 
@@ -49,38 +51,38 @@ pub struct RecordKind {
 #[derive(Clone, Copy, PartialEq, Eq, Debug)]
 pub struct UnknownKind(pub u8);
 
-const NONE: Slots = Slots {
+const NONE: Slots<'static> = Slots {
     more: false,
     slots: &[],
 };
 
-const ONE: Slots = Slots {
+const ONE: Slots<'static> = Slots {
     more: false,
     slots: &[N],
 };
 
-const TWO: Slots = Slots {
+const TWO: Slots<'static> = Slots {
     more: false,
     slots: &[N, N],
 };
 
-const THREE: Slots = Slots {
+const THREE: Slots<'static> = Slots {
     more: false,
     slots: &[N, N, N],
 };
 
-const OPTION: Slots = Slots {
+const OPTION: Slots<'static> = Slots {
     more: false,
     slots: &[O],
 };
 
-const TO_RESULT: Slots = Slots {
+const TO_RESULT: Slots<'static> = Slots {
     more: false,
     slots: &[N, R],
 };
 
 // The operands of a kind of expression, as it stands in an entry, if there is such a kind.
-pub fn expression_slots(kind: u8) -> Option<Slots>
+pub fn expression_slots(kind: u8) -> Option<Slots<'static>>
     ensures { option_map row_of result ≡ slice_get expressions kind }
 {
     let expression = Expression::try_from(kind).ok()?;
@@ -98,7 +100,7 @@ pub fn record_kind(kind: u8) -> Option<RecordKind>
     })
 }
 
-impl Slots {
+impl Slots<'_> {
     // Whether a run of `len` operands has the right number of them.
     pub fn admits(&self, len: u32) -> bool
         ensures { result ≡ admitted (row_of self.now) len }

@@ -75,7 +75,7 @@ impl TryFrom<u8> for Statement {
 
 impl Statement {
     // The operands that it has.
-    pub fn slots(self) -> Slots
+    pub fn slots(self) -> Slots<'static>
         ensures { slots_in_records (statement_number self) ≡ Some (row_of result) }
     {
         match self {

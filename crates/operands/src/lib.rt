@@ -40,7 +40,7 @@ pub enum Demand {
 }
 
 // The row of a kind, a byte as it stands in an entry, in its table.
-pub fn slots_of(sort: Sort, kind: u8) -> Option<Slots>
+pub fn slots_of(sort: Sort, kind: u8) -> Option<Slots<'static>>
     ensures { option_map row_of result ≡ slots_of sort kind }
 {
     match sort {
@@ -148,7 +148,7 @@ impl Demand {
 }
 
 fn front_of(row: Option<Slots>, len: u32) -> u32
-    ensures { result ≡ fronted (option_map row_of row) len }
+    ensures { result ≡ fronted (option_map row_of row.entry) len }
 {
     match row {
         Some(row) if row.admits(len) => row.front(len),

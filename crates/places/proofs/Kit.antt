@@ -1,5 +1,5 @@
 -- Least and first places put together.
-use Rattle.std.proofs.Common.{◌≡◌, ℕ, zero, suc, ◌+◌, ◌<◌, ◌≤◌, min, ◌⊎◌, List, [], ◌∷◌, length, get_or, take, Some, None, Option, sym, refl, ◌∙◌, subst, inl, inr, ⊎_elim, arith, zero-add}
+use Rattle.std.proofs.Common.{◌≡◌, ℕ, zero, suc, ◌+◌, ◌<◌, ◌≤◌, min, ◌⊎◌, List, [], ◌∷◌, length, get_or, take, Some, None, Option, sym, refl, ◌∙◌, subst, inl, inr, ⊎_elim, arith, lit<, zero-add}
 use Rattle.std.proofs.lemmas.List.{length-take, get_or-map}
 use Rattle.std.proofs.lemmas.List.FromFn.{get_or-range_with_len}
 use Rattle.std.specs.Option.{option_or}
@@ -50,6 +50,24 @@ Clear F t = (s i : ℕ) → s < t → F s i → ⊥
 pub clear_more : (F : ℕ → ℕ → Type 0) (t : ℕ) → Clear F t → Least (F t) None → Clear F (t + 1)
 clear_more F t c h s i l f =
     ⊎_elim (λ (m : s < t). c s i m f) (λ (m : t ≤ s). let e : s ≡ t = omega arith in h i (subst (λ u. F u i) e f)) (cases_lt s t)
+
+-- every table has a number below 15
+pub numbered : (t : TableName) → number_of t < 15
+numbered GlobalEntries = lit< tt
+numbered GlobalOperands = lit< tt
+numbered Constants = lit< tt
+numbered Overrides = lit< tt
+numbered VariableInits = lit< tt
+numbered BodyEntries = lit< tt
+numbered BodyOperands = lit< tt
+numbered Records = lit< tt
+numbered RecordOperands = lit< tt
+numbered LocalInits = lit< tt
+numbered NamedHandles = lit< tt
+numbered Sizes = lit< tt
+numbered HandleTable = lit< tt
+numbered OverridesConstants = lit< tt
+numbered Kinds = lit< tt
 
 -- the tables in the order of their numbers
 abbrev pub tables : List TableName

@@ -48,7 +48,15 @@ module _ (shape range : ℕ → ℕ → Type 0) (blocks names : ℕ → Type 0) 
   by_sort P s t b n (NegativeMeshOutputMax x) h = absurd h
   by_sort P s t b n (Full x) h = absurd h
 
-  first_range : (p : Place) → Clean shape → First range p → FirstOf Applies (Err (OutOfRange p))
+  pub first_shape : (p : Place) → First shape p → FirstOf Applies (Err (Misshapen p))
+  first_shape p f = (
+    f.0,
+    λ r l h.
+        by_sort (λ r. Earlier r (Misshapen p) → ⊥) (λ q h l. f.1 q (less_place q p (same l)) h) (λ q h l. later (lit< tt) l)
+        (λ k h l. later (lit< tt) l) (λ k h l. later (lit< tt) l) r h l,
+  )
+
+  pub first_range : (p : Place) → Clean shape → First range p → FirstOf Applies (Err (OutOfRange p))
   first_range p c f = (
     f.0,
     λ r l h.

@@ -1,14 +1,17 @@
 -- What the conversion's steps show of a double. Assumes nothing.
-use Rattle.std.proofs.Common.{◌≡◌, ℕ, zero, suc, ◌+◌, ◌*◌, ◌<◌, ◌≤◌, Bool, true, false, cond, not, T, eqb, ltb, pos, ℤ, Ok, Err, sym, refl, ap, ◌∙◌, subst, true≢false, zero-lt-suc, mul-pos, zero-mul, mul-one, arith, le-ltb, lt-ltb, ne_eqb}
+use Rattle.std.proofs.Common.{◌≡◌, ℕ, zero, suc, ◌+◌, ◌*◌, ◌^◌, ◌<◌, ◌≤◌, Bool, true, false, cond, not, T, eqb, ltb, pos, negsuc, ℤ, ◌≤ℤ◌, Ok, Err, sym, refl, ap, ◌∙◌, subst, true≢false, zero-lt-suc, mul-lt-mul_of_pos_right, mul-pos, zero-mul, mul-one, arith, le-ltb, lt-ltb, ne_eqb}
+use lib.Signed.{le_z}
 use lib.Ieee.{Float, nan, inf, fin, binary64, up, eq, ne, is_nan, fits, of_bits, to_bits}
 use lib.Ieee.Fits.{up_pos}
+use borrow.Author.Differences.{ints}
 use Rattle.std.specs.Float as Floats
 use Rattle.rounding.specs.declared.conversion.ConversionError.TheVariants.{DstRangeTooSmall}
 use Rattle.rounding.specs.Formats.{Format, double, infinity, sign_bit_of, magnitude}
 use Rattle.rounding.specs.Nearest.{Nearest}
 use Rattle.rounding.specs.Doubles.{units, truth}
 use Rattle.rounding.specs.Conversion.{Rounds}
-use Rattle.rounding.proofs.Floats.{size_below, size_is}
+use Rattle.rounding.proofs.Patterns.{weight_pos}
+use Rattle.rounding.proofs.Floats.{signed, size_below, size_is}
 
 pub chosen : (b : Bool) (P Q : Type 0) → b ≡ true → P → cond b P Q
 chosen true P Q h p = p
@@ -18,7 +21,19 @@ pub passed : (b : Bool) (P Q : Type 0) → b ≡ false → Q → cond b P Q
 passed true P Q h q = absurd (true≢false h)
 passed false P Q h q = q
 
+-- ---- whole numbers
+
+-- A whole number between two that a double holds exactly lies far within 64 bits. `omega` takes no number as long as 2 ^ 1074, so this speaks of any size n.
+module _ (low high : ℤ) (l : (negsuc (2 ^ 52) ≤ℤ low) × (low ≤ℤ pos (2 ^ 52))) (g : (negsuc (2 ^ 52) ≤ℤ high) × (high ≤ℤ pos (2 ^ 52))) where
+  pub near : (b : Bool) (n : ℕ) → le_z (signed b n) high ≡ true → le_z low (signed b n) ≡ true → n < 2 ^ 63
+  near true zero p q = omega arith
+  near true (suc n) p q = grind (arith, ints)
+  near false n p q = grind (arith, ints)
+
 -- ---- floats
+
+pub infinity_lt : (f : Format) → infinity f < sign_bit_of f
+infinity_lt f = mul-lt-mul_of_pos_right (omega arith) (weight_pos f)
 
 -- y is the size of a finite value x, which the code has under the name v too
 module _ (x v y : Float) (t : fits binary64 x ≡ true) (s : (v ≡ x) × Floats.NotNan v × (Floats.float_is_finite v ≡ true)) (e : y ≡ Floats.float_with_sign false v) where

@@ -1,16 +1,21 @@
 -- What a double's parts say, for a format with fewer digits. Assumes nothing.
-use Rattle.std.proofs.Common.{◌≡◌, ℕ, suc, ◌+◌, ◌-◌, ◌*◌, ◌/◌, ◌^◌, ◌<◌, ◌≤◌, min, sym, ap, subst, ◌∙◌, inl, inr, lt_of_lt_of_le, add-zero, mul-le-mul_right, mul_comm, mul-lt-mul_of_pos_right, pow-suc, le-div_iff_mul-le, arith, pow_pos, pow_mono, pow-add, shr_lt}
+use Rattle.std.proofs.Common.{◌≡◌, ℕ, suc, ◌+◌, ◌-◌, ◌*◌, ◌/◌, ◌^◌, ◌<◌, ◌≤◌, min, sym, ap, subst, ◌∙◌, inl, inr, lt_of_lt_of_le, add-zero, mul-le-mul_right, mul_comm, mul-lt-mul_of_pos_right, pow-suc, le-div_iff_mul-le, arith, lit<, pow_pos, pow_mono, pow-add, shr_lt}
 use Rattle.std.proofs.lemmas.Bool.{cases_lt}
+use Rattle.std.proofs.lemmas.Nat.{div_below}
 use Rattle.rounding.specs.Formats.{Format, double, weight, infinity, step, significand, doublings, magnitude}
 use Rattle.rounding.specs.Nearest.{Nearest}
 use Rattle.rounding.specs.Shifts.{Narrow, Rounded}
 use Rattle.rounding.proofs.Patterns.{Stands, stands, below_two, magnitude_is}
 use Rattle.rounding.proofs.Rounding.{rounds, rounds_to_zero}
 
-significand_lt : (bits : ℕ) → significand double bits < 2 ^ 53
+pub significand_lt : (bits : ℕ) → significand double bits < 2 ^ 53
 significand_lt bits = omega (arith, below_two double bits)
 
-double_is : (bits : ℕ) → magnitude double bits ≡ significand double bits * 2 ^ doublings double bits
+pub doublings_lt : (bits : ℕ) → bits < infinity double → doublings double bits < 2046
+unfolding doublings
+doublings_lt bits h = let p : bits / 2 ^ 52 < 2047 = div_below bits (2 ^ 52) 2047 (lit< tt) h in omega arith
+
+pub double_is : (bits : ℕ) → magnitude double bits ≡ significand double bits * 2 ^ doublings double bits
 double_is bits = magnitude_is double bits ∙ ap (λ (x : ℕ). significand double bits * 2 ^ x) (add-zero (doublings double bits))
 
 twice : (p : ℕ) → 1 ≤ p → 2 * 2 ^ (p - 1) ≡ 2 ^ p

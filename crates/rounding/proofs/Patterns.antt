@@ -120,6 +120,9 @@ magnitude_lt f a (suc b) h =
     let p = pow_pos (doublings f b + step f) in
     elim (cases_lt a b) [ inl l ↦ omega (arith, magnitude_lt f a b l, magnitude_next f b) | inr l ↦ (let e : a ≡ b = omega arith in rw e (omega (arith, magnitude_next f b))) ]
 
+pub magnitude_up : (f : Format) (a k : ℕ) → magnitude f a < magnitude f (a + suc k)
+magnitude_up f a k = magnitude_lt f a (a + suc k) (omega arith)
+
 pub magnitude_le : (f : Format) (a b : ℕ) → a ≤ b → magnitude f a ≤ magnitude f b
 magnitude_le f a b h = elim (cases_lt a b) [ inl l ↦ omega (arith, magnitude_lt f a b l) | inr l ↦ (let e : a ≡ b = omega arith in rw e (omega arith)) ]
 
